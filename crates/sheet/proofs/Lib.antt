@@ -1,0 +1,7 @@
+pub mod Checks
+pub mod Fields
+pub mod Halves
+pub mod Listed
+pub mod Summed
+pub mod Wholes
+pub mod Showing

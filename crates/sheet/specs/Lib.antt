@@ -1,0 +1,11 @@
+pub mod Limits
+pub mod Model
+pub mod Settings
+pub mod Refusals
+pub mod Rates
+pub mod Calls
+pub mod Holds
+pub mod Laws
+pub mod Rounding
+pub mod Shown
+pub mod Sound

@@ -1,0 +1,33 @@
+-- Which values a setting may hold.
+use mathlib.Core.Path.{_≡_}
+use mathlib.Core.Bool.{Bool, true, cond, _&&_}
+use mathlib.Core.List.{List}
+use Prim.Native.Nat.{ℕ, _+_, _-_, _*_, _%_}
+use lib.ListN.{getD}
+use lib.Dec.{eqb, leb}
+use Rattle.std.specs.declared.option.Option.{Option}
+use Rattle.std.specs.declared.option.Option.the-variants.{Some, None}
+
+-- the least and the greatest value of each of the eight fields: 1 the proof test interval in hours, 2 and 3 MTTR and MRT in hours,
+-- 4, 5 and 6 β, βD and K in ten-thousandths, 7 the component type by its letter's code, 65 or 66, and 8 the voting by its code
+abbrev pub least : ℕ → ℕ
+least f = cond (eqb f 1) 1 (cond (eqb f 7) 65 (cond (eqb f 8) 1 0))
+
+abbrev pub greatest : ℕ → ℕ
+greatest f = cond (eqb f 1) 200000 (cond (eqb f 7) 66 (cond (eqb f 8) 5 10000))
+
+abbrev pub allowed : ℕ → ℕ → Bool
+allowed f v = leb (least f) v && leb v (greatest f)
+
+-- a value that field f may hold, or blank
+abbrev pub allowed-or-blank : ℕ → Option ℕ → Bool
+allowed-or-blank f None = true
+allowed-or-blank f (Some v) = allowed f v
+
+-- field f of place p in the list of all fields, eight for each place
+abbrev pub field-at : List (Option ℕ) → ℕ → ℕ → Option ℕ
+field-at fs p f = getD fs (8 * p + (f - 1)) None
+
+-- every field that is not blank holds a value that it may hold
+abbrev pub Within : List (Option ℕ) → Type 0
+Within fs = (i v : ℕ) → getD fs i None ≡ Some v → allowed (i % 8 + 1) v ≡ true
