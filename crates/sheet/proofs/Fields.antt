@@ -7,16 +7,17 @@ use Prim.Native.Nat.{ℕ, zero, suc, _+_, _-_, _*_, _%_, _≤_, _<_}
 use native.Mathlib.Nat.{zero-add}
 use native.Mathlib.Omega.{arith}
 use lib.ListN.{length, getD, set, replicate}
-use Rattle.std.proofs.shelf.Lists.{set-append-left, set-append-right, getD-set-same, getD-set-other, length-append, length-set}
+use Rattle.std.proofs.shelf.Lists.{set-append-left, set-append-right, getD-set-same, getD-set-other, length-append}
 use Rattle.std.specs.declared.option.Option.{Option}
 use Rattle.std.specs.declared.option.Option.the-variants.{Some, None}
 use Rattle.std.specs.declared.result.Result.the-variants.{Ok}
 use Rattle.sheet.specs.declared.setting.PlaceRecord.{PlaceRecord}
 use Rattle.sheet.specs.declared.setting.Setting.{Setting}
 use Rattle.sheet.specs.Limits.{allowed, allowed-or-blank, Within}
-use Rattle.sheet.specs.Model.{Model, field, with-field}
+use Rattle.sheet.specs.Model.{Model, with-field}
 use Rattle.sheet.specs.Settings.{fields-of, all-fields, blank-place, setting-number}
 use Rattle.sheet.specs.Laws.{One-field}
+use Rattle.sheet.proofs.Apart.{none-some}
 
 all-fields-set : (rs : List PlaceRecord) (p : ℕ) (r : PlaceRecord) (j : ℕ) (v : Option ℕ) → j < 8
     → fields-of r ≡ set (fields-of (getD rs p blank-place)) j v → all-fields (set rs p r) ≡ set (all-fields rs) (8 * p + j) v
@@ -74,7 +75,7 @@ none-of (suc n) (suc i) = none-of n i
 
 -- fields that are all blank
 pub within-blank : (n : ℕ) → Within (replicate n None)
-within-blank n i v e = let h = none-of n i in let z : _≡_ {A = ℕ} 0 1 = cc in absurd (omega arith)
+within-blank n i v e = none-some (sym (none-of n i) ∙ e)
 
 -- eight fields for each place
 pub all-fields-length : (rs : List PlaceRecord) → length (all-fields rs) ≡ 8 * length rs

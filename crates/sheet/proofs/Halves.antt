@@ -1,11 +1,11 @@
 -- The integer quotient that rounds to the nearest tenth, a half going up.
 use mathlib.Core.Path.{_≡_}
 use mathlib.Core.Logic.{⊎-elim}
-use Prim.Native.Nat.{ℕ, _+_, _-_, _*_, _/_, _≤_, _<_}
+use Prim.Native.Nat.{ℕ, _+_, _*_, _/_, _≤_, _<_}
 use native.Mathlib.Nat.{mul-le-mul-right, div-mul-le-self, lt-div-mul-add, le-refl}
 use native.Mathlib.Omega.{arith}
 use Rattle.std.proofs.shelf.Tests.{cases-order, cases-lt}
-use Rattle.sheet.specs.Rounding.{off, Rounded}
+use Rattle.sheet.specs.Rounding.{distance, Rounded}
 
 module _ (n d t : ℕ) (real : 0 < d) (is : t ≡ (2000 * n + d) / (2 * d)) where
   at-least : 2 * (t * d) ≤ 2000 * n + d
@@ -19,7 +19,7 @@ module _ (n d t : ℕ) (real : 0 < d) (is : t ≡ (2000 * n + d) / (2 * d)) wher
       omega arith
 
   -- a greater number of tenths is farther off
-  above : (u : ℕ) → t < u → off n d t < off n d u
+  above : (u : ℕ) → t < u → distance n d t < distance n d u
   above u l =
       let a = at-least in
       let b = at-most in
@@ -27,7 +27,7 @@ module _ (n d t : ℕ) (real : 0 < d) (is : t ≡ (2000 * n + d) / (2 * d)) wher
       omega arith
 
   -- a smaller one is not nearer
-  below : (u : ℕ) → u < t → off n d t ≤ off n d u
+  below : (u : ℕ) → u < t → distance n d t ≤ distance n d u
   below u l =
       let a = at-least in
       let b = at-most in
@@ -38,7 +38,7 @@ module _ (n d t : ℕ) (real : 0 < d) (is : t ≡ (2000 * n + d) / (2 * d)) wher
   rounded =
       record {
         nearest = λ u.
-            ⊎-elim (λ e. rw e (le-refl (off n d u))) (⊎-elim (λ l. let h = above u l in omega arith) (λ l. below u l)) (cases-order t u);
+            ⊎-elim (λ e. rw e (le-refl (distance n d u))) (⊎-elim (λ l. let h = above u l in omega arith) (λ l. below u l)) (cases-order t u);
         upper = λ u e. ⊎-elim (λ l. absurd (let h = above u l in omega arith)) (λ g. g) (cases-lt t u);
       }
 

@@ -1,5 +1,5 @@
 -- The rows of the model against the rows that the unit keeps.
-use mathlib.Core.Path.{_≡_, refl, sym, ap, subst, _∙_}
+use mathlib.Core.Path.{_≡_, refl, sym, subst, _∙_}
 use mathlib.Core.List.{List, [], _∷_, _++_, map}
 use Prim.Native.Nat.{ℕ, zero, suc, _+_, _≤_, _<_}
 use native.Mathlib.Numerals.{add-one}
@@ -16,18 +16,23 @@ use Rattle.std.specs.declared.result.Result.the-variants.{Ok}
 use Rattle.sheet.specs.declared.contents.Rows.{Rows}
 use Rattle.sheet.specs.declared.row.Row as unit
 use Rattle.sheet.specs.declared.share.Share.{Share}
-use Rattle.sheet.specs.declared.whole.Sheet.{Sheet}
+use Rattle.sheet.specs.declared.sheets.Sheet.{Sheet}
 use Rattle.sheet.specs.Holds.{rows-of, row-of, model}
 use Rattle.sheet.specs.Laws.{One-row-out}
 use Rattle.sheet.specs.Model.{Model, Row, without-row}
 use Rattle.sheet.specs.Sound.{Sound, Row-within, Share-within}
 use Rattle.sheet.proofs.Fields.{all-fields-length}
+use Rattle.sheet.proofs.Apart.{none-some}
 
 pub rows-length : (rs : Rows) → length (rows-of rs) ≡ vec-len (rs .list)
 rows-length rs = length-map (vec-items (rs .list)) row-of ∙ sym (rs .list .ok .0)
 
 pub rows-removed : (xs : List unit.Row) (i : ℕ) → map row-of (removed xs i) ≡ take i (map row-of xs) ++ drop (suc i) (map row-of xs)
 rows-removed xs i = map-append row-of (take i xs) (drop (suc i) xs) ∙ rw (take-map row-of i xs, drop-map row-of (suc i) xs)
+
+-- a model with other rows
+abbrev pub with-rows : Model → List Row → Model
+with-rows m rs = record { mode = m .mode; fields = m .fields; rows = rs }
 
 -- a list without one element
 removed-earlier : (xs : List Row) (i k : ℕ) → k < i → nth (take i xs ++ drop (suc i) xs) k ≡ nth xs k
@@ -60,7 +65,7 @@ one-row-out m i h =
     }
 
 share-within : (s : Option Share) → Share-within (mapped (λ a. a .thousandths) s)
-share-within None x e = let z : _≡_ {A = ℕ} 0 1 = cc in absurd (omega arith)
+share-within None x e = none-some e
 share-within (Some a) x e = let q : a .thousandths ≡ x = cc in omega (arith, a .within)
 
 row-within : (r : unit.Row) → Row-within (row-of r)
@@ -74,7 +79,7 @@ row-within r =
     }
 
 each-within : (rs : List unit.Row) (k : ℕ) (r : Row) → nth (map row-of rs) k ≡ Some r → Row-within r
-each-within [] k r e = let z : _≡_ {A = ℕ} 0 1 = cc in absurd (omega arith)
+each-within [] k r e = none-some e
 each-within (x ∷ rs) zero r e = let q : row-of x ≡ r = cc in let P : Row → Type 0 = Row-within in subst P q (row-within x)
 each-within (x ∷ rs) (suc k) r e = each-within rs k r e
 

@@ -1,12 +1,11 @@
 -- What the unit's sheet holds, as a model.
 use mathlib.Core.List.{List, map}
-use Prim.Native.Nat.{ℕ}
 use Rattle.std.specs.Of.Vec.{vec-items}
 use Rattle.std.specs.Options.{mapped}
 use Rattle.sheet.specs.declared.row.Row as unit
 use Rattle.sheet.specs.declared.contents.Contents.{Contents}
 use Rattle.sheet.specs.declared.contents.Rows.{Rows}
-use Rattle.sheet.specs.declared.whole.Sheet.{Sheet}
+use Rattle.sheet.specs.declared.sheets.Sheet.{Sheet}
 use Rattle.sheet.specs.Model.{Model, Row}
 use Rattle.sheet.specs.Settings.{all-fields}
 

@@ -2,12 +2,11 @@
 use mathlib.Core.Bool.{cond}
 use mathlib.Core.List.{List, [], _∷_, _++_}
 use Prim.Native.Nat.{ℕ, suc, _+_, _-_, _*_}
-use lib.ListN.{set, take, drop, replicate}
+use lib.ListN.{getD, set, take, drop, replicate}
 use lib.Dec.{eqb}
 use Rattle.std.specs.declared.option.Option.{Option}
 use Rattle.std.specs.declared.option.Option.the-variants.{Some, None}
 use Rattle.sheet.specs.declared.mode.Mode.{Mode}
-use Rattle.sheet.specs.Limits.{field-at}
 
 -- a failure rate in thousandths of a FIT at a place, its safe share and its diagnostic coverage in thousandths, if given
 pub record Row : Type 0 where
@@ -30,15 +29,19 @@ new-model = record { mode = None; fields = replicate 64 None; rows = [] }
 abbrev pub letter-mode : ℕ → Option Mode
 letter-mode l = cond (eqb l 76) (Some Mode.Low) (cond (eqb l 72) (Some Mode.High) None)
 
+-- where field f of place p stands among the fields, eight for each place
+abbrev pub index : ℕ → ℕ → ℕ
+index p f = 8 * p + (f - 1)
+
 -- field f of place p
 abbrev pub field : Model → ℕ → ℕ → Option ℕ
-field m p f = field-at (m .fields) p f
+field m p f = getD (m .fields) (index p f) None
 
 abbrev pub with-mode : Model → Mode → Model
 with-mode m k = record { mode = Some k; fields = m .fields; rows = m .rows }
 
 abbrev pub with-field : Model → ℕ → ℕ → Option ℕ → Model
-with-field m p f v = record { mode = m .mode; fields = set (m .fields) (8 * p + (f - 1)) v; rows = m .rows }
+with-field m p f v = record { mode = m .mode; fields = set (m .fields) (index p f) v; rows = m .rows }
 
 abbrev pub with-row : Model → Row → Model
 with-row m r = record { mode = m .mode; fields = m .fields; rows = m .rows ++ (r ∷ []) }

@@ -1,14 +1,16 @@
 -- How a row's failure rate splits, and the sums of a place.
 use mathlib.Core.Bool.{cond, not, _&&_}
 use Rattle.std.specs.Options.{isSome}
-use Rattle.std.specs.shelf.Maps.{nth}
 use mathlib.Core.Path.{_≡_}
 use mathlib.Core.List.{List, [], _∷_}
 use Prim.Native.Nat.{ℕ, _+_, _-_, _*_, _≤_}
 use lib.Dec.{eqb}
 use Rattle.std.specs.declared.option.Option.{Option}
 use Rattle.std.specs.declared.option.Option.the-variants.{Some, None}
+use Rattle.std.specs.declared.result.Result.{Result}
+use Rattle.std.specs.declared.result.Result.the-variants.{Ok, Err}
 use Rattle.sheet.specs.declared.rates.RateSums.{RateSums}
+use Rattle.sheet.specs.Limits.{greatest-rate, most-rows}
 use Rattle.sheet.specs.Model.{Model, Row}
 
 -- a rate in thousandths of a FIT, with its safe share and its diagnostic coverage in thousandths, in units of 1e-9 FIT
@@ -38,8 +40,8 @@ rows-at p (r ∷ rs) = cond (eqb (r .place) p) (r ∷ rows-at p rs) (rows-at p r
 abbrev pub no-rates : RateSums
 no-rates = record { safe = 0; «dangerous_detected» = 0; «dangerous_undetected» = 0; «safe_detected» = 0 }
 
-abbrev pub together : RateSums → RateSums → RateSums
-together x y =
+abbrev pub add-rates : RateSums → RateSums → RateSums
+add-rates x y =
     record {
       safe = x .safe + y .safe;
       «dangerous_detected» = x .«dangerous_detected» + y .«dangerous_detected»;
@@ -47,17 +49,17 @@ together x y =
       «safe_detected» = x .«safe_detected» + y .«safe_detected»;
     }
 
-abbrev pub both : Option RateSums → Option RateSums → Option RateSums
-both None y = None
-both (Some x) None = None
-both (Some x) (Some y) = Some (together x y)
+abbrev pub add-splits : Option RateSums → Option RateSums → Option RateSums
+add-splits None y = None
+add-splits (Some x) None = None
+add-splits (Some x) (Some y) = Some (add-rates x y)
 
 -- the splits of all rows added, unless one has a blank share
 abbrev pub total : List Row → Option RateSums
 total [] = Some no-rates
-total (r ∷ rs) = both (split-of r) (total rs)
+total (r ∷ rs) = add-splits (split-of r) (total rs)
 
--- where the first row of place p with a blank share stands, counted from n
+-- the number of the first row of place p with a blank share, where the rows are numbered from n
 abbrev pub blank-in : ℕ → ℕ → List Row → Option ℕ
 blank-in p n [] = None
 blank-in p n (r ∷ rs) = cond (eqb (r .place) p && not (isSome (split-of r))) (Some n) (blank-in p (n + 1) rs)
@@ -71,21 +73,21 @@ rate-at p [] = 0
 rate-at p (r ∷ rs) = cond (eqb (r .place) p) (r .rate + rate-at p rs) (rate-at p rs)
 
 -- safe, dangerous detected and dangerous undetected failures together
-abbrev pub whole-rate : RateSums → ℕ
-whole-rate x = x .safe + (x .«dangerous_detected» + x .«dangerous_undetected»)
+abbrev pub failure-rate : RateSums → ℕ
+failure-rate x = x .safe + (x .«dangerous_detected» + x .«dangerous_undetected»)
 
 -- no sum is above that of n rows, each with the greatest rate
 pub record Bounded (n : ℕ) (x : RateSums) : Type 0 where
-  pub safe-bound : x .safe ≤ n * 100000000000000
-  pub detected-bound : x .«dangerous_detected» ≤ n * 100000000000000
-  pub undetected-bound : x .«dangerous_undetected» ≤ n * 100000000000000
-  pub safe-detected-bound : x .«safe_detected» ≤ n * 100000000000000
+  pub safe-bound : x .safe ≤ n * (1000000 * greatest-rate)
+  pub detected-bound : x .«dangerous_detected» ≤ n * (1000000 * greatest-rate)
+  pub undetected-bound : x .«dangerous_undetected» ≤ n * (1000000 * greatest-rate)
+  pub safe-detected-bound : x .«safe_detected» ≤ n * (1000000 * greatest-rate)
 
 -- the four rate sums of a place
 abbrev pub sums : Model → ℕ → Option RateSums
 sums m p = total (rows-at p (m .rows))
 
--- nothing is lost or added: the safe and the dangerous failures of a row, and of a place, are its rate, in units of 1e-9 FIT
-pub record Whole (m : Model) (p : ℕ) (x : RateSums) : Type 0 where
-  pub of-the-place : whole-rate x ≡ 1000000 * rate-at p (m .rows)
-  pub of-each-row : (k : ℕ) (r : Row) (y : RateSums) → nth (m .rows) k ≡ Some r → split-of r ≡ Some y → whole-rate y ≡ 1000000 * r .rate
+-- what is read of the rows of place p: their sums, which are small, or the number of the first with a blank share
+abbrev pub Reads-sums : List Row → ℕ → Result RateSums ℕ → Type 0
+Reads-sums rs p (Ok x) = (total (rows-at p rs) ≡ Some x) × (first-blank p rs ≡ None) × Bounded most-rows x
+Reads-sums rs p (Err i) = (total (rows-at p rs) ≡ None) × (first-blank p rs ≡ Some i)

@@ -34,24 +34,24 @@ answer-of (Err f) = Err (refusal-of f)
 -- a check of a call: whether it fails, and the refusal if it does
 pub record Check : Type 0 where
   pub fails : Bool
-  pub told : Refusal
+  pub tells : Refusal
 
 abbrev pub check : Bool → Refusal → Check
-check b r = record { fails = b; told = r }
+check b r = record { fails = b; tells = r }
 
 -- the first check that fails counts
 abbrev pub first-failing : List Check → Option Refusal
 first-failing [] = None
-first-failing (c ∷ cs) = cond (c .fails) (Some (c .told)) (first-failing cs)
+first-failing (c ∷ cs) = cond (c .fails) (Some (c .tells)) (first-failing cs)
 
 -- what a call answers, and what it leaves of two states: what was, where it is refused, else what it makes
 abbrev pub answered : {X : Type 0} → Option Refusal → X → Result X Refusal
 answered None x = Ok x
 answered (Some r) x = Err r
 
-abbrev pub left : {M : Type 0} → Option Refusal → M → M → M
-left None was made = made
-left (Some r) was made = was
+abbrev pub after-call : {M : Type 0} → Option Refusal → M → M → M
+after-call None was made = made
+after-call (Some r) was made = was
 
 -- the first of two refusals
 abbrev pub or-else : Option Refusal → Option Refusal → Option Refusal

@@ -12,8 +12,9 @@ use Rattle.std.specs.declared.result.Result.the-variants.{Ok, Err}
 use Rattle.sheet.specs.declared.fault.Refusal.{Refusal}
 use Rattle.sheet.specs.declared.rates.RateSums.{RateSums}
 use Rattle.sheet.specs.declared.show.Percentages.{Percentages}
+use Rattle.sheet.specs.Limits.{last-place}
 use Rattle.sheet.specs.Model.{Model}
-use Rattle.sheet.specs.Rates.{rows-at, first-blank, sums, whole-rate}
+use Rattle.sheet.specs.Rates.{rows-at, first-blank, sums, failure-rate}
 use Rattle.sheet.specs.Refusals.{refusal, check, first-failing, or-else}
 use Rattle.sheet.specs.Rounding.{Rounded}
 
@@ -22,14 +23,14 @@ abbrev pub show-refusal : Model → ℕ → Option Refusal
 show-refusal m p =
     or-else
     (first-failing
-    (check (ltb 7 p) (refusal 1 (Some p) None)
+    (check (ltb last-place p) (refusal 1 (Some p) None)
     ∷ check (eqb (length (rows-at p (m .rows))) 0) (refusal 11 (Some p) None) ∷ []))
     (mapped (λ i. refusal 12 (Some p) (Some i)) (first-blank p (m .rows)))
 
 -- the safe failure fraction is that of the safe and the dangerous detected failures among all; the diagnostic coverage is that of the
 -- dangerous detected among the dangerous ones, and absent where there are none
 pub record Shows-sums (x : RateSums) (a : Percentages) : Type 0 where
-  pub sff-shown : Rounded (x .safe + x .«dangerous_detected») (whole-rate x) (a .sff)
+  pub sff-shown : Rounded (x .safe + x .«dangerous_detected») (failure-rate x) (a .sff)
   pub coverage-shown :
       Cases (a .«diagnostic_coverage») (x .«dangerous_detected» + x .«dangerous_undetected» ≡ 0)
       (λ t. (0 < x .«dangerous_detected» + x .«dangerous_undetected»)

@@ -26,7 +26,7 @@ use crate::row::Row;
 use crate::setting::Field;
 use crate::setting::PlaceRecord;
 use crate::setting::Setting;
-use crate::whole::Sheet;
+use crate::sheets::Sheet;
 use std::alloc::AllocError;
 use std::alloc::Global;
 

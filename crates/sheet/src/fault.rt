@@ -3,7 +3,7 @@ ghost use mathlib.Core.Path.{_≡_};
 ghost use Rattle.sheet.specs.Refusals.{refusal-of};
 
 // Why a call is refused, with what the call named, even out of range.
-#[derive(Clone, Copy, PartialEq, Eq, Debug)]
+#[derive(Clone, Copy)]
 pub enum Fault {
     PlaceOver { place: u32, item: Option<u32> },
     RateOutside { place: u32 },
@@ -18,7 +18,7 @@ pub enum Fault {
 }
 
 // What a refused call tells: the refusal's number, the place and the item (a row or a field) that it names, and the layer that refused.
-#[derive(Clone, Copy, PartialEq, Eq, Debug)]
+#[derive(Clone, Copy)]
 pub struct Refusal {
     pub number: u8,
     pub place: Option<u32>,

@@ -1,13 +1,9 @@
 // What may be entered: shares and rows within their limits.
 ghost use mathlib.Core.Path.{_≡_};
 ghost use mathlib.Core.Bool.{true, false};
-ghost use Prim.Native.Nat.{_<_, _≤_};
 ghost use Rattle.std.specs.Options.{Cases, mapped};
-ghost use Rattle.std.specs.declared.option.Option.the-variants.{Some, None};
-ghost use Rattle.std.specs.Results.{Cases as ByOk};
-ghost use Rattle.sheet.specs.Calls.{over-share, row-refusal};
-ghost use Rattle.sheet.specs.Refusals.{refusal-of};
-ghost use Rattle.sheet.specs.Holds.{row-of};
+ghost use Rattle.sheet.specs.Calls.{over-share};
+ghost use Rattle.sheet.specs.Parts.{Makes-row};
 use crate::fault::Fault;
 use crate::place::Place;
 use crate::row::Row;
@@ -43,7 +39,7 @@ impl Row {
         safe: Option<u32>,
         coverage: Option<u32>,
     ) -> Result<Row, Fault>
-        ensures { λ r. ⌜ ByOk r (λ w. (row-of w ≡ record { place = place; rate = rate; safe = safe; coverage = coverage }) × (row-refusal place rate safe coverage ≡ None)) (λ e. row-refusal place rate safe coverage ≡ Some (refusal-of e)) ⌝ }
+        ensures { λ r. ⌜ Makes-row place rate safe coverage r ⌝ }
     {
         let Some(at) = Place::new(place) else {
             return Err(Fault::PlaceOver { place, item: None });

@@ -2,18 +2,19 @@
 ghost use mathlib.Core.Path.{_≡_};
 ghost use Prim.Native.Nat.{_<_, _≤_};
 ghost use Rattle.std.specs.Options.{Cases};
+ghost use Rattle.sheet.specs.Limits.{last-place};
 
 // One of the eight places, 0 to 7. All rows of a place describe one of its like channels.
 #[derive(Clone, Copy)]
 pub struct Place {
     pub(crate) number: u8,
-    ghost within: { number < 8 },
+    ghost within: { number ≤ last-place },
 }
 
 impl Place {
     // The place of that number, if there is one.
     pub fn new(number: u32) -> Option<Place>
-        ensures { λ r. ⌜ Cases r (8 ≤ number) (λ p. p .number ≡ number) ⌝ }
+        ensures { λ r. ⌜ Cases r (last-place < number) (λ p. p .number ≡ number) ⌝ }
     {
         if number > 7 {
             return None;

@@ -1,5 +1,6 @@
 // A row of the failure mode and effects analysis, as it stands on the sheet.
 ghost use Prim.Native.Nat.{_≤_};
+ghost use Rattle.sheet.specs.Limits.{greatest-rate};
 use crate::place::Place;
 use crate::share::Share;
 
@@ -12,5 +13,5 @@ pub struct Row {
     pub(crate) safe: Option<Share>,
     pub(crate) coverage: Option<Share>,
     ghost least: { 1 ≤ rate },
-    ghost most: { rate ≤ 100000000 },
+    ghost most: { rate ≤ greatest-rate },
 }

@@ -1,14 +1,13 @@
 // The rows of a sheet: one more, one fewer, none.
 ghost use mathlib.Core.Path.{_≡_};
 ghost use mathlib.Core.Bool.{cond};
-ghost use mathlib.Core.List.{[], _∷_, _++_};
-ghost use Prim.Native.Nat.{_≤_, _<_};
+ghost use mathlib.Core.List.{[]};
 ghost use lib.Dec.{ltb};
 ghost use Rattle.std.specs.Holes.{removed};
 ghost use Rattle.std.specs.Of.Vec.{vec-items, vec-len};
 ghost use Rattle.std.specs.Vec.{made};
-ghost use Rattle.std.specs.Options.{Cases};
 ghost use Rattle.sheet.specs.Holds.{rows-of};
+ghost use Rattle.sheet.specs.Parts.{Adds};
 use crate::contents::Rows;
 use crate::row::Row;
 use std::alloc::AllocError;
@@ -27,7 +26,7 @@ impl Rows {
 
     // One row more, at the end, and its number; none where the sheet is full.
     pub(crate) fn add(&mut self, row: Row) -> Option<u32>
-        ensures { λ r. ⌜ Cases r ((64 ≤ vec-len (now (self .entry) .list)) × (vec-items (now (self .exit) .list) ≡ vec-items (now (self .entry) .list))) (λ n. (vec-len (now (self .entry) .list) < 64) × (n ≡ vec-len (now (self .entry) .list)) × (vec-items (now (self .exit) .list) ≡ vec-items (now (self .entry) .list) ++ (row ∷ []))) ⌝ }
+        ensures { λ r. ⌜ Adds row (now (self .entry)) (now (self .exit)) r ⌝ }
     {
         let n = self.list.len();
         if n >= MOST_ROWS {

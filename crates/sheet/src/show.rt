@@ -3,8 +3,14 @@ ghost use mathlib.Core.Path.{_≡_};
 ghost use Prim.Native.Nat.{ℕ, _+_, _*_, _/_, _≤_, _<_};
 ghost use Rattle.std.specs.Options.{Cases};
 ghost use Rattle.std.specs.Slices.{found};
+ghost use Rattle.std.specs.declared.option.Option.the-variants.{Some};
+ghost use Rattle.std.specs.declared.result.Result.{Result};
+ghost use Rattle.sheet.specs.declared.fault.Refusal.{Refusal};
+ghost use Rattle.sheet.specs.declared.show.Percentages.{Percentages};
 ghost use Rattle.sheet.specs.Holds.{model};
-ghost use Rattle.sheet.specs.Rates.{sums, Bounded, Whole, whole-rate};
+ghost use Rattle.sheet.specs.Kept.{First-blank, Rows-kept, Sums-kept};
+ghost use Rattle.sheet.specs.Limits.{most-rows};
+ghost use Rattle.sheet.specs.Rates.{sums, Bounded, failure-rate, first-blank};
 ghost use Rattle.sheet.specs.Refusals.{answer-of};
 ghost use Rattle.sheet.specs.Rounding.{Rounded};
 ghost use Rattle.sheet.specs.Shown.{Shows, Shows-sums};
@@ -12,7 +18,7 @@ ghost use Rattle.sheet.specs.Sound.{Sound};
 use crate::fault::Fault;
 use crate::place::Place;
 use crate::rates::RateSums;
-use crate::whole::Sheet;
+use crate::sheets::Sheet;
 
 // In tenths of a per cent. A place with no dangerous failures has no diagnostic coverage.
 #[derive(Clone, Copy)]
@@ -44,8 +50,8 @@ fn tenths(part: u64, whole: u64) -> Option<u32>
 impl RateSums {
     // The percentages of these sums, or none where nothing is summed.
     fn percentages(self) -> Option<Percentages>
-        requires { ⌜ Bounded 64 self ⌝ }
-        ensures { λ r. ⌜ Cases r (whole-rate self ≡ 0) (λ a. (0 < whole-rate self) × Shows-sums self a) ⌝ }
+        requires { ⌜ Bounded most-rows self ⌝ }
+        ensures { λ r. ⌜ Cases r (failure-rate self ≡ 0) (λ a. (0 < failure-rate self) × Shows-sums self a) ⌝ }
     {
         let dangerous = self.dangerous_detected + self.dangerous_undetected;
         let sff = tenths(self.safe + self.dangerous_detected, self.safe + dangerous)?;
@@ -61,15 +67,13 @@ impl Sheet {
     // The four rate sums of a place, or none where a share of one of its rows is blank.
     pub fn rate_sums(&self, place: Place) -> Option<RateSums>
         ensures value { λ r. ⌜ r ≡ sums (model (now (self .entry))) (place .number) ⌝ }
-        ensures bounded { λ r. ⌜ found r (λ x. Bounded 64 x) ⌝ }
-        ensures whole { λ r. ⌜ found r (λ x. Whole (model (now (self .entry))) (place .number) x) ⌝ }
-        ensures sound { λ _. ⌜ Sound (model (now (self .entry))) ⌝ }
+        ensures bounded { λ r. ⌜ found r (λ x. Bounded most-rows x) ⌝ }
+        ensures kept { λ r. ⌜ found r (λ x. Sums-kept (model (now (self .entry))) (place .number) x) ⌝ }
     {
         self.contents.rows.sums(place).ok()
     }
 
-    // The safe failure fraction and the diagnostic coverage of a place.
-    pub fn show(&self, place: u32) -> Result<Percentages, Fault>
+    fn percentages_at(&self, place: u32) -> Result<Percentages, Fault>
         ensures { λ r. ⌜ Shows (model (now (self .entry))) place (answer-of r) ⌝ }
     {
         let Some(at) = Place::new(place) else {
@@ -80,5 +84,16 @@ impl Sheet {
             Ok(sums) => sums.percentages().ok_or(Fault::RowsMissing { place }),
             Err(row) => Err(Fault::ShareBlank { place, row }),
         }
+    }
+
+    // The safe failure fraction and the diagnostic coverage of a place.
+    pub fn show(&self, place: u32) -> Result<Percentages, Fault>
+        ensures answer { λ r. ⌜ Shows (model (now (self .entry))) place (answer-of r) ⌝ }
+        ensures no_other { λ r. ⌜ ((a : Result Percentages Refusal) → Shows (model (now (self .entry))) place a → a ≡ answer-of r) ⌝ }
+        ensures blank_row { λ _. ⌜ ((i : ℕ) → first-blank place (model (now (self .entry)) .rows) ≡ Some i → First-blank (model (now (self .entry)) .rows) place i) ⌝ }
+        ensures rows_kept { λ _. ⌜ Rows-kept (model (now (self .entry))) ⌝ }
+        ensures sound { λ _. ⌜ Sound (model (now (self .entry))) ⌝ }
+    {
+        self.percentages_at(place)
     }
 }

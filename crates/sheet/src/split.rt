@@ -1,9 +1,7 @@
 // How a row's failure rate splits, and the sums of the rows of a place.
 ghost use mathlib.Core.Path.{_≡_};
-ghost use Prim.Native.Nat.{_+_, _*_, _≤_, _<_, _^_};
-ghost use Rattle.std.specs.Results.{Cases as ByOk};
-ghost use Rattle.std.specs.declared.option.Option.the-variants.{Some, None};
-ghost use Rattle.sheet.specs.Rates.{split-of, together, total, rows-at, Bounded, first-blank, no-rates};
+ghost use Rattle.sheet.specs.Limits.{most-rows};
+ghost use Rattle.sheet.specs.Rates.{split-of, add-rates, Bounded, Reads-sums};
 ghost use Rattle.sheet.specs.Holds.{row-of, rows-of};
 use crate::contents::Rows;
 use crate::place::Place;
@@ -38,8 +36,8 @@ impl RateSums {
 
     // The sums of two, which are small enough to be added.
     fn plus(self, other: RateSums) -> RateSums
-        requires { ⌜ Bounded 64 self ⌝ ∗ ⌜ Bounded 1 other ⌝ }
-        ensures { λ r. ⌜ r ≡ together self other ⌝ }
+        requires { ⌜ Bounded most-rows self ⌝ ∗ ⌜ Bounded 1 other ⌝ }
+        ensures { λ r. ⌜ r ≡ add-rates self other ⌝ }
     {
         RateSums {
             safe: self.safe + other.safe,
@@ -53,7 +51,7 @@ impl RateSums {
 impl Rows {
     // The four sums of a place, or the number of its first row with a blank share.
     pub(crate) fn sums(&self, place: Place) -> Result<RateSums, u32>
-        ensures { λ r. ⌜ ByOk r (λ x. (total (rows-at (place .number) (rows-of (now (self .entry)))) ≡ Some x) × (first-blank (place .number) (rows-of (now (self .entry))) ≡ None) × Bounded 64 x) (λ i. (total (rows-at (place .number) (rows-of (now (self .entry)))) ≡ None) × (first-blank (place .number) (rows-of (now (self .entry))) ≡ Some i)) ⌝ }
+        ensures { λ r. ⌜ Reads-sums (rows-of (now (self .entry))) (place .number) r ⌝ }
     {
         let mut sums = RateSums::NONE;
         for (i, row) in self.list.iter().enumerate() {

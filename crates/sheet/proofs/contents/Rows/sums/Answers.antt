@@ -1,12 +1,10 @@
-use mathlib.Core.Path.{_≡_, sym, _∙_, subst}
+use mathlib.Core.Path.{sym, _∙_, subst}
 use mathlib.Core.List.{map}
 use Prim.Native.Nat.{_+_}
 use lib.ListN.{drop}
 use Rattle.std.specs.Of.Vec.{vec-items}
-use Rattle.std.specs.declared.option.Option.the-variants.{Some, None}
 use Rattle.sheet.specs.declared.rates.RateSums.{RateSums}
 use Rattle.sheet.specs.Holds.{row-of, rows-of}
-use Rattle.sheet.specs.Rates.{split-of}
 use Rattle.sheet.proofs.Summed.{Summing, sum-start, sum-next, sum-pass, sum-add, sum-stop, sum-last, sum-end, few-so-far, row-bounded}
 use Rattle.sheet.proofs.contents.Rows.sums.Needs as need
 use Rattle.sheet.proofs.contents.Rows.sums.Needs.{then-row-place·in-Some, else-row-place}

@@ -1,0 +1,9 @@
+pub mod Limits
+pub mod Words
+pub mod Helpers
+pub mod Values
+pub mod Calls
+pub mod Reading
+pub mod Spelling
+pub mod Texts
+pub mod Buffer

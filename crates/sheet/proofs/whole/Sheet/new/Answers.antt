@@ -1,6 +1,0 @@
-use mathlib.Core.Path.{refl}
-use Rattle.sheet.proofs.Fields.{within-blank}
-use Rattle.sheet.proofs.whole.Sheet.new.Needs as need
-
-pub ghost-result : need.ghost-result
-ghost-result c = (refl, (within-blank 64, tt))
