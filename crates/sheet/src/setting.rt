@@ -8,7 +8,7 @@ ghost use Rattle.std.specs.declared.option.Option.the-variants.{Some, None};
 ghost use Rattle.sheet.specs.Limits.{allowed};
 ghost use Rattle.sheet.specs.Settings.{field-number, setting-number, setting-value, component-code, voting-code, fields-of};
 
-// The component type of a subsystem: A where its failure modes are all well known, else B.
+// The component type: A where all failure modes are well defined and the behaviour under faults is known, else B.
 #[derive(Clone, Copy)]
 pub enum ComponentType {
     A,
