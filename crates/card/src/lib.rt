@@ -1,5 +1,7 @@
 // The card of a sheet: the bytes that carry it from unit to unit. A card is read field by field onto a draft, and the sheet changes
 // only where the whole card is accepted.
+#![tactic(auto)]
+
 mod entry;
 mod fault;
 mod fields;

@@ -1,4 +1,6 @@
 // Holds reading and writing to every cut and every change of one byte of a short card: each is refused, or written back byte for byte.
+#![tactic(auto)]
+
 use card::CardReader;
 use card_writer::write;
 use sheet::Sheet;

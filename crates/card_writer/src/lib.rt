@@ -1,4 +1,6 @@
 // Writes the card of a sheet into an area of bytes: at its start, and the rest of the area is kept.
+#![tactic(auto)]
+
 mod area;
 mod buffer;
 mod filling;

@@ -1,4 +1,6 @@
 // The console over a sheet: what each line is answered, and the text that an answer is printed as.
+#![tactic(auto)]
+
 mod answers;
 mod reply;
 mod text;

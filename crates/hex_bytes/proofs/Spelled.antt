@@ -1,12 +1,12 @@
 -- A word is read just where it writes bytes, and the word of bytes writes them.
-use Rattle.std.proofs.Common.{◌≡◌, ℕ, ◌+◌, ◌-◌, ◌*◌, ◌<◌, ◌≤◌, Bool, true, false, cond, ◌&&◌, eqb, ltb, leb, List, [], ◌∷◌, length, Some, None, Ok, Err, codes, Option, refl, inl, inr, ⊎_elim, arith}
+use Rattle.std.proofs.Common.{◌≡◌, ◌∙◌, option_map, ℕ, ◌+◌, ◌-◌, ◌*◌, ◌<◌, ◌≤◌, Bool, true, false, cond, ◌&&◌, eqb, ltb, leb, List, [], ◌∷◌, length, Some, None, Ok, Err, codes, Option, refl, inl, inr, ⊎_elim, arith}
 use Rattle.std.proofs.lemmas.Slice.Eq.{bytes_eq-Decides}
 use Rattle.std.proofs.lemmas.Bool.{and_right, cond_both, le-ltb, lt-ltb, ltb-false}
 use Rattle.std.proofs.lemmas.Bool.Decides.{nat_tests}
 use Rattle.std.specs.List.{AllByRecursion as All}
 use Rattle.std.specs.Str.{bytes_eq}
 use Rattle.hex_bytes.specs.declared.bytes.Bytes.{Bytes}
-use Rattle.hex_bytes.specs.declared.reading.NotHex.TheVariants.{TooLong}
+use Rattle.hex_bytes.specs.declared.reading.NotHex.TheVariants.{NotPairs, TooLong}
 use Rattle.hex_bytes.specs.Digits.{before, byte_of, digit_of, hex_of, hex_text, hex_word}
 use Rattle.hex_bytes.specs.Kept.{capacity, kept_as}
 use Rattle.hex_bytes.specs.Reading.{bytes_of, from_hex_of, kept_or, longest}
@@ -119,3 +119,23 @@ read_writes w b h = read_by (ltb longest (length w)) (bytes_of w) w b refl refl 
 pub word_writes : (bs : List ℕ) → All (λ b. b < 256) bs → Writes (hex_word bs) bs
 word_writes [] h = refl
 word_writes (b ∷ bs) h = hex_pairs (hex_text (b ∷ bs)) (b ∷ bs) (hex_back (b ∷ bs) h)
+
+-- what is read of a word that is neither too long, nor empty, nor `-`
+read_kept : (o : Option (List ℕ)) (b : Bytes) → Some b ≡ option_map kept_as o → Ok b ≡ kept_or o
+read_kept None b q = cc
+read_kept (Some bs) b q = cc
+
+read_none : (o : Option (List ℕ)) → None ≡ option_map kept_as o → Err NotPairs ≡ kept_or o
+read_none None q = refl
+read_none (Some bs) q = cc
+
+from_pairs : (w : List ℕ) → length w ≤ longest → eqb (length w) 0 ≡ false → bytes_eq w (codes "-") ≡ false → kept_or (hex_of w) ≡ from_hex_of w
+from_pairs w l e d = let q : ltb longest (length w) ≡ false = le-ltb _ _ l in rw (q, e, d) refl
+
+pub from_some : (w : List ℕ) (b : Bytes) → length w ≤ longest → eqb (length w) 0 ≡ false → bytes_eq w (codes "-") ≡ false
+    → Some b ≡ option_map kept_as (hex_of w) → Ok b ≡ from_hex_of w
+from_some w b l e d q = read_kept (hex_of w) b q ∙ from_pairs w l e d
+
+pub from_none : (w : List ℕ) → length w ≤ longest → eqb (length w) 0 ≡ false → bytes_eq w (codes "-") ≡ false
+    → None ≡ option_map kept_as (hex_of w) → Err NotPairs ≡ from_hex_of w
+from_none w l e d q = read_none (hex_of w) q ∙ from_pairs w l e d

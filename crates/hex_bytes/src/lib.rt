@@ -1,5 +1,7 @@
 // Bytes in hexadecimal: up to 2,048 bytes that are kept in place, read from a word and printed as one.
 // A word has two digits for each byte, in either case, and `-` is the word for no bytes.
+#![tactic(auto)]
+
 mod bytes;
 mod digits;
 mod printing;

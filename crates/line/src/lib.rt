@@ -8,6 +8,8 @@
 //     clear
 //     show PLACE
 // Its words stand between spaces, tabs, carriage returns and line feeds, and `#` begins a comment.
+#![tactic(auto)]
+
 mod buffer;
 mod calls;
 mod reading;

@@ -1,5 +1,7 @@
 // The sheet of a safety function: its mode of operation, the settings of eight places, and the rows of its failure mode and effects
 // analysis. Every call either does what it says or is refused with a numbered refusal and changes nothing.
+#![tactic(auto)]
+
 mod calls;
 mod contents;
 mod fault;

@@ -1,5 +1,5 @@
 -- Where a line ends.
-use Rattle.std.specs.Prelude.{◌≡◌, ℕ, ◌<◌, List, ◌≢◌, slice_index}
+use Rattle.std.specs.Prelude.{ℕ, ◌<◌, List, ◌≢◌, slice_index}
 
 -- no line ends within the first n bytes
 abbrev pub Unended : List ℕ → ℕ → Type 0

@@ -1,4 +1,6 @@
 // The console of the unit: calls from the file that it is given, or from standard input, one to a line, and an answer line for each.
+#![tactic(auto)]
+
 ghost use Rattle.std.specs.Prelude.{◌≡◌, ◌<◌, length, MatchOption, slice_index};
 ghost use Rattle.sil.specs.Lines.{Unended};
 

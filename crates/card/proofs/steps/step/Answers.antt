@@ -8,33 +8,33 @@ use Rattle.card.proofs.Ordered.{card_on, last_on}
 use Rattle.card.proofs.Stepping.{step_order, step_apply, no_refusal, refused_so}
 use Rattle.card.proofs.steps.step.Goals as goal
 
-pub returns-in-err-entry : goal.returns-in-err-entry
+pub returns-in_err-entry : goal.returns-in_err-entry
 unfolding step
-returns-in-err-entry c =
-    let p = err_from_is_err_and c.from-residual.result c.from-residual.ensures.1 in
+returns-in_err-entry c =
+    let p = err_from_is_err_and c.from_residual.result c.from_residual.ensures.1 in
     rw (p.1, p.2)
-    (record { value = ap (then_checked (model c.args.sheet.now)) c.in-err-entry.ensures.value; long = tt; after = tt; order = tt; grown = tt })
+    (record { value = ap (then_checked (model c.args.sheet.now)) c.in_err-entry.ensures.value; long = tt; after = tt; order = tt; grown = tt })
 
-pub returns-then-not-may-follow : goal.returns-then-not-may-follow
-returns-then-not-may-follow c =
+pub returns-then-not-may_follow : goal.returns-then-not-may_follow
+returns-then-not-may_follow c =
     record {
-      value = step_order _ _ _ c.in-ok-entry.ensures.value (c.requires.decides _ ∙ sym c.if-not-may-follow.ensures);
+      value = step_order _ _ _ c.in_ok-entry.ensures.value (c.requires.decides _ ∙ sym c.if-not-may_follow.ensures);
       long = tt;
       after = tt;
       order = tt;
       grown = tt;
     }
 
-pub returns-in-err-apply : goal.returns-in-err-apply
-returns-in-err-apply c =
-    let p = err_from_is_err_and c.from-residual-in-err-apply.result c.from-residual-in-err-apply.ensures.1 in
+pub returns-in_err-apply : goal.returns-in_err-apply
+returns-in_err-apply c =
+    let p = err_from_is_err_and c.from_residual-in_err-apply.result c.from_residual-in_err-apply.ensures.1 in
     let m = model c.args.sheet.now in
-    let e = c.in-ok-entry.entry in
+    let e = c.in_ok-entry.entry in
     rw (p.1, p.2)
     (record {
       value =
-          refused_so (entry_refusal m e) e _ (c.in-err-apply.ensures.answer ∙ answer_is m e)
-          ∙ step_apply _ _ _ c.in-ok-entry.ensures.value (c.requires.decides _ ∙ sym c.if-not-may-follow.ensures);
+          refused_so (entry_refusal m e) e _ (c.in_err-apply.ensures.answer ∙ answer_is m e)
+          ∙ step_apply _ _ _ c.in_ok-entry.ensures.value (c.requires.decides _ ∙ sym c.if-not-may_follow.ensures);
       long = tt;
       after = tt;
       order = tt;
@@ -44,14 +44,14 @@ returns-in-err-apply c =
 pub returns : goal.returns
 returns c =
     let m = model c.args.sheet.now in
-    let e = c.in-ok-entry.entry in
-    let o : in_order m e ≡ true = c.requires.decides e ∙ sym c.if-not-may-follow.ensures in
-    let q : entry_refusal m e ≡ None = no_refusal _ _ (c.in-ok-apply.ensures.answer ∙ answer_is m e) in
+    let e = c.in_ok-entry.entry in
+    let o : in_order m e ≡ true = c.requires.decides e ∙ sym c.if-not-may_follow.ensures in
+    let q : entry_refusal m e ≡ None = no_refusal _ _ (c.in_ok-apply.ensures.answer ∙ answer_is m e) in
     let a : model c.apply.new.sheet ≡ entry_put m e = c.apply.ensures.after ∙ made_is m e q in
     record {
-      value = rw q at (step_apply m _ e c.in-ok-entry.ensures.value o);
-      long = field_fits _ e c.in-ok-entry.ensures.spelled;
+      value = rw q at (step_apply m _ e c.in_ok-entry.ensures.value o);
+      long = field_fits _ e c.in_ok-entry.ensures.spelled;
       after = c.apply.ensures.after;
       order = rw a (last_on m e c.requires.all o q);
-      grown = rw a (card_on m e _ c.requires.all o q c.in-ok-entry.ensures.spelled);
+      grown = rw a (card_on m e _ c.requires.all o q c.in_ok-entry.ensures.spelled);
     }

@@ -6,7 +6,7 @@ use Rattle.card_writer.proofs.writer.write.Goals as goal
 
 pub returns : goal.returns
 returns c =
-    let h = c.put-card.ensures in
+    let h = c.put_card.ensures in
     let s = c.args.sheet.now in
     record {
       answer = h.answer;

@@ -10,7 +10,7 @@ use Rattle.line.proofs.reading.read.Goals as goal
 pub returns-in-Ok : goal.returns-in-Ok
 returns-in-Ok c =
     let line : List ℕ = c.args.line.now in
-    let e = c.call.ensures ∙ (ap (λ (t : List ℕ). call_of (words t)) c.before-comment.ensures ∙ read_text line c.in-Ok.ensures.cases.1) in
+    let e = c.call.ensures ∙ (ap (λ (t : List ℕ). call_of (words t)) c.before_comment.ensures ∙ read_text line c.in-Ok.ensures.cases.1) in
     record {
       value = e;
       text = text_decides line;

@@ -3,8 +3,8 @@ use lib.Utf8.{encode}
 use Rattle.line.proofs.Characters.{no_letter, not_text_no_letter, letter_encode, scalar_encode}
 use Rattle.line.proofs.values.letter.Goals as goal
 
-pub returns-in-default : goal.returns-in-default
-returns-in-default c = not_text_no_letter c.args.word.now c.in-default.ensures.cases.0
+pub returns-in_default : goal.returns-in_default
+returns-in_default c = not_text_no_letter c.args.word.now c.in_default.ensures.cases.0
 
 pub returns-in-Ok-parse : goal.returns-in-Ok-parse
 returns-in-Ok-parse c =

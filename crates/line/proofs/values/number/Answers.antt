@@ -3,14 +3,14 @@ use Rattle.std.specs.Str.{all_ascii_digits}
 use Rattle.line.specs.Values.{number_of}
 use Rattle.line.proofs.Numerals.{no_digits, other_byte, digits_all, digits_utf8, parsed, parsed_numeral}
 use Rattle.line.proofs.values.number.Goals as goal
-use Rattle.line.proofs.values.number.Goals.{After-parse, then-is-empty-via-then-is-empty, then-is-empty-via-else-is-empty+then-leading-bytes-word}
+use Rattle.line.proofs.values.number.Goals.{After-parse, then-is_empty-via-then-is_empty, then-is_empty-via-else-is_empty+then-leading_bytes-word}
 
-pub returns-then-is-empty : goal.returns-then-is-empty
-returns-then-is-empty c =
-    elim c.then-is-empty.branch [ then-is-empty-via-then-is-empty w ↦ search (rules, no_digits) | then-is-empty-via-else-is-empty+then-leading-bytes-word w ↦ search (rules, other_byte) ]
+pub returns-then-is_empty : goal.returns-then-is_empty
+returns-then-is_empty c =
+    elim c.then-is_empty.branch [ then-is_empty-via-then-is_empty w ↦ search (rules, no_digits) | then-is_empty-via-else-is_empty+then-leading_bytes-word w ↦ search (rules, other_byte) ]
 
-pub returns-in-default : goal.returns-in-default
-returns-in-default c = absurd (c.in-default.ensures.cases.0 (digits_utf8 c.args.word.now (digits_all c.args.word.now (search rules))))
+pub returns-in_default : goal.returns-in_default
+returns-in_default c = absurd (c.in_default.ensures.cases.0 (digits_utf8 c.args.word.now (digits_all c.args.word.now (search rules))))
 
 -- what `parse` answered is the word's number
 answered : (c : After-parse) → parsed c.parse.result ≡ number_of c.args.word.now

@@ -7,9 +7,9 @@ use Rattle.card.specs.Helpers.{Spelled}
 use Rattle.card.proofs.Bytes.{field_first}
 use Rattle.card.proofs.entry.Entry.read.Goals as goal
 
-pub returns-in-default : goal.returns-in-default
+pub returns-in_default : goal.returns-in_default
 unfolding entry_at
-returns-in-default c = search rules
+returns-in_default c = search rules
 
 pub returns : goal.returns
 unfolding entry_at
@@ -17,13 +17,13 @@ returns c =
     let bs = c.args.bytes.now in
     let z : ltb (length bs) 3 ≡ false = search rules in
     let l : 3 ≤ length bs = ltb-false _ _ z in
-    let n = c.two-bytes.ensures in
+    let n = c.two_bytes.ensures in
     record {
       value =
           rw z
-          (c.read-value.ensures.value ∙ ap (λ n. value_of (get_or bs 0 0) n (take (length bs - 3) (drop 3 bs))) n.value
+          (c.read_value.ensures.value ∙ ap (λ n. value_of (get_or bs 0 0) n (take (length bs - 3) (drop 3 bs))) n.value
           ∙ rw take_rest);
       spelled =
-          IfOk-weaker _ (λ e. Spelled e (get_or bs 0 0) c.two-bytes.result (take (length bs - 3) (drop 3 bs)))
-          (λ e. bs ≡ field_bytes e ++ drop (width e) bs) (λ e s. field_first bs e _ l n.spelled s) c.read-value.ensures.spelled;
+          IfOk-weaker _ (λ e. Spelled e (get_or bs 0 0) c.two_bytes.result (take (length bs - 3) (drop 3 bs)))
+          (λ e. bs ≡ field_bytes e ++ drop (width e) bs) (λ e s. field_first bs e _ l n.spelled s) c.read_value.ensures.spelled;
     }

@@ -4,4 +4,4 @@ use Rattle.card_writer.proofs.buffer.CardBuffer.push.Goals as goal
 
 pub returns-in-Row : goal.returns-in-Row
 returns-in-Row c =
-    rw c.in-Row.is (c.append-in-Row.ensures ∙ ap (λ l. held c.args.self.now ++ l) c.row-bytes.ensures)
+    rw c.in-Row.is (c.append-in-Row.ensures ∙ ap (λ l. held c.args.self.now ++ l) c.row_bytes.ensures)

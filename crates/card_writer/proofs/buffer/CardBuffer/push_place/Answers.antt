@@ -5,7 +5,7 @@ use Rattle.card.specs.Entries.{bytes, field_bytes, setting_entries}
 use Rattle.card_writer.specs.Helpers.{held}
 use Rattle.card_writer.proofs.Growing.{blank_next, field_next, room_for_field}
 use Rattle.card_writer.proofs.buffer.CardBuffer.push_place.Goals as goal
-use Rattle.card_writer.proofs.buffer.CardBuffer.push_place.Goals.{in-Some, in-default}
+use Rattle.card_writer.proofs.buffer.CardBuffer.push_place.Goals.{in-Some, in_default}
 
 pub push-requires : goal.push-requires
 push-requires c = room_for_field _ _ _ _ _ c.requires.0 c.loop-i.auto.i-end c.requires.1 c.loop-i.invariant
@@ -20,7 +20,7 @@ loop-i-preserved c =
       | in-Some w ↦
           ap held w.self-is ∙ w.push.ensures ∙ ap (λ l. l ++ field_bytes (Entry.Setting p (i + 1) w.in-Some.value)) c.loop-i.invariant
           ∙ field_next start p i vs c.loop-i-test.true c.requires.0 w.in-Some.value (i + 1) w.in-Some.is refl
-      | in-default w ↦ ap held w.self-is ∙ c.loop-i.invariant ∙ blank_next start p i vs c.loop-i-test.true c.requires.0 w.in-default.is
+      | in_default w ↦ ap held w.self-is ∙ c.loop-i.invariant ∙ blank_next start p i vs c.loop-i-test.true c.requires.0 w.in_default.is
     ]
 
 pub returns : goal.returns

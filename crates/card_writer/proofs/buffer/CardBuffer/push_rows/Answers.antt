@@ -19,9 +19,9 @@ pub loop-row-preserved : goal.loop-row-preserved
 loop-row-preserved c =
     let r = c.row-item.result in
     let before = held c.args.self.now ++ bytes (row_entries (map row_of (take c.loop-row.row-index c.args.rows.now))) in
-    c.push.ensures ∙ ap (λ l. l ++ field_bytes (Entry.Row r.place.number r.rate c.share_number.result c.share-number-in-loop-row.result)) c.loop-row.invariant
-    ∙ ap (λ s. before ++ field_bytes (Entry.Row r.place.number r.rate s c.share-number-in-loop-row.result)) c.share_number.ensures
-    ∙ ap (λ s. before ++ field_bytes (Entry.Row r.place.number r.rate (share_number (row_of r).safe) s)) c.share-number-in-loop-row.ensures
+    c.push.ensures ∙ ap (λ l. l ++ field_bytes (Entry.Row r.place.number r.rate c.share_number.result c.share_number-in-loop-row.result)) c.loop-row.invariant
+    ∙ ap (λ s. before ++ field_bytes (Entry.Row r.place.number r.rate s c.share_number-in-loop-row.result)) c.share_number.ensures
+    ∙ ap (λ s. before ++ field_bytes (Entry.Row r.place.number r.rate (share_number (row_of r).safe) s)) c.share_number-in-loop-row.ensures
     ∙ row_next (held c.args.self.now) c.loop-row.row-index c.args.rows.now r c.loop-row-test.true c.row-item.is
 
 pub returns : goal.returns

@@ -6,10 +6,10 @@ use Rattle.sheet.proofs.Listed.{sound}
 use Rattle.card_writer.specs.Helpers.{held}
 use Rattle.card_writer.proofs.Growing.{place_next, room_for_place}
 use Rattle.card_writer.proofs.buffer.CardBuffer.push_settings.Goals as goal
-use Rattle.card_writer.proofs.buffer.CardBuffer.push_settings.Goals.{in-Some, in-default}
+use Rattle.card_writer.proofs.buffer.CardBuffer.push_settings.Goals.{in-Some, in_default}
 
-pub push-place-requires : goal.push-place-requires
-push-place-requires c =
+pub push_place-requires : goal.push_place-requires
+push_place-requires c =
     let s = c.args.sheet.now in
     let p = c.in-Some.place.number in
     let l = (sound s).all_fields_stand in
@@ -28,11 +28,11 @@ loop-number-preserved c =
       | in-Some w ↦
           let e = w.in-Some.ensures in
           let l : 8 * n ≤ length fs = omega (arith, (sound s).all_fields_stand, c.loop-number-test.true) in
-          ap held w.self-is ∙ w.push-place.ensures ∙ ap (λ l. l ++ bytes (setting_entries (8 * w.in-Some.place.number) w.values.result)) c.loop-number.invariant
+          ap held w.self-is ∙ w.push_place.ensures ∙ ap (λ l. l ++ bytes (setting_entries (8 * w.in-Some.place.number) w.values.result)) c.loop-number.invariant
           ∙ ap (λ vs. (start ++ bytes (setting_entries 0 (take (8 * n) fs))) ++ bytes (setting_entries (8 * w.in-Some.place.number) vs)) w.values.ensures
           ∙ ap (λ p. (start ++ bytes (setting_entries 0 (take (8 * n) fs))) ++ bytes (setting_entries (8 * p) (take 8 (drop (8 * p) fs)))) e
           ∙ place_next start n fs l
-      | in-default w ↦ absurd (let l = w.in-default.ensures in let t = c.loop-number-test.true in omega arith)
+      | in_default w ↦ absurd (let l = w.in_default.ensures in let t = c.loop-number-test.true in omega arith)
     ]
 
 pub returns : goal.returns

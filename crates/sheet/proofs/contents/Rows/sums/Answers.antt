@@ -29,8 +29,8 @@ loop-i-preserved c =
           subst P (sym w.sums-is) (sum_pass p (rows_of rs) i (row_of c.row-item.result) rest s h w.if-row-place.false)
     ]
 
-pub returns-in-default : goal.returns-in-default
-returns-in-default c =
+pub returns-in_default : goal.returns-in_default
+returns-in_default c =
     let p = c.args.place.number in
     let rs = c.args.self.now in
     let i = c.loop-i.i in
@@ -39,7 +39,7 @@ returns-in-default c =
     sum_next p rs i s c.deref-row-items.result.now c.deref-row-items.ensures.value c.loop-i.invariant c.row-item.result
     c.loop-i-test.true c.row-item.is in
     sum_stop p (rows_of rs) i (row_of c.row-item.result) (map row_of (drop (i + 1) (vec_items rs.list))) s h c.if-row-place.true
-    (sym c.in-default.ensures)
+    (sym c.in_default.ensures)
 
 pub plus-sums-requires : goal.plus-sums-requires
 plus-sums-requires c = (

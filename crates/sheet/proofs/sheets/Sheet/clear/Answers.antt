@@ -2,5 +2,5 @@ use Rattle.std.proofs.Common.{refl}
 use Rattle.sheet.proofs.Fields.{within_blank}
 use Rattle.sheet.proofs.sheets.Sheet.clear.Goals as goal
 
-pub invariant-of-self-2 : goal.invariant-of-self-2
-invariant-of-self-2 c = ((tt, tt), (refl, (within_blank 64, tt)))
+pub invariant_of-self-2 : goal.invariant_of-self-2
+invariant_of-self-2 c = ((tt, tt), (refl, (within_blank 64, tt)))

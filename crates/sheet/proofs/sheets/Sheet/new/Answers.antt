@@ -2,5 +2,5 @@ use Rattle.std.proofs.Common.{refl}
 use Rattle.sheet.proofs.Fields.{within_blank}
 use Rattle.sheet.proofs.sheets.Sheet.new.Goals as goal
 
-pub invariant-of-result : goal.invariant-of-result
-invariant-of-result c = (refl, (within_blank 64, tt))
+pub invariant_of-result : goal.invariant_of-result
+invariant_of-result c = record { eight = refl; settings = within_blank 64 }

@@ -15,7 +15,7 @@ returns-in-Ok c =
     let o = c.percentages.result in
     let P : ℕ → Type 0 = λ n. Shows (model s) n (answer_of (ok_or o (Fault.RowsMissing n))) in
     let Q : Result Percentages Fault → Type 0 = λ r. Shows (model s) c.args.place (answer_of r) in
-    subst Q (sym c.ok-or.ensures.value)
+    subst Q (sym c.ok_or.ensures.value)
     (subst P c.in-Some.ensures (shown s c.in-Some.at.number c.in-Some.at.within c.in-Ok.sums o h.0 h.1 c.percentages.ensures))
 
 pub returns-in-Err : goal.returns-in-Err

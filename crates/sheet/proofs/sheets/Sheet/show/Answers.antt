@@ -9,12 +9,12 @@ use Rattle.sheet.proofs.sheets.Sheet.show.Goals as goal
 
 pub returns : goal.returns
 returns c =
-    let h = c.percentages-at.ensures in
+    let h = c.percentages_at.ensures in
     let s = c.args.self.now in
     record {
       answer = h;
-      no_other = λ a k. shown_one (model s) c.args.place a (answer_of c.percentages-at.result) k h;
-      blank-row = first_blank_is c.args.place (model s).rows;
+      no_other = λ a k. shown_one (model s) c.args.place a (answer_of c.percentages_at.result) k h;
+      blank_row = first_blank_is c.args.place (model s).rows;
       rows_kept = rows_kept (vec_items s.contents.rows.list);
       sound = sound s;
     }
