@@ -18,8 +18,8 @@ mod tests {
 
     #[test]
     fn words_are_read(rt: HostRuntime) -> Result<(), Fail> {
-        assert_eq!(rt; Bytes::from_hex(b"0aFf")?.as_slice(), &[10, 255]);
-        assert_eq!(rt; Bytes::from_hex(b"-")?.as_slice(), &[]);
+        assert_eq!(rt; Bytes::from_hex(b"0aFf")?.as_slice(), [10, 255].as_slice());
+        assert_eq!(rt; Bytes::from_hex(b"-")?.as_slice(), [].as_slice());
         assert_eq!(rt; Bytes::from_hex(b""), Err(NotHex::NotPairs));
         assert_eq!(rt; Bytes::from_hex(b"0a0"), Err(NotHex::NotPairs));
         assert_eq!(rt; Bytes::from_hex(b"0g"), Err(NotHex::NotPairs));

@@ -11,6 +11,7 @@ use sheet::Sheet;
 use std::env;
 use std::fs::File;
 use std::io::{BufRead, BufReader};
+use std::process::ExitCode;
 
 // How many bytes stand before the first end of a line, if one ends here.
 fn line_end(bytes: &[u8]) -> Option<usize>
@@ -76,10 +77,10 @@ fn run(rt: &HostRuntime) -> anyhow::Result<()> {
 }
 
 // What goes wrong outside a line, as a file that is not there, is told on standard error and ends the program with status 1.
-fn main(rt: HostRuntime) -> anyhow::Result<()> {
-    let result = run(&rt);
-    if let Err(why) = &result {
+fn main(rt: HostRuntime) -> anyhow::Result<ExitCode> {
+    if let Err(why) = run(&rt) {
         eprintln!(rt; "sil: {why}")?;
+        return Ok(ExitCode::FAILURE);
     }
-    result
+    Ok(ExitCode::SUCCESS)
 }
