@@ -1,6 +1,6 @@
 -- One card for each sheet.
 use Rattle.std.specs.Prelude.{◌≡◌, ℕ, ◌<◌, true, List, ◌++◌, length, IfOk, IfErr, Ok, Err, Result}
-use Rattle.std.specs.List.{AllByRecursion as All}
+use Rattle.std.specs.List.{AllByRecursion}
 use Rattle.card.specs.declared.entry.Entry.{Entry}
 use Rattle.card.specs.declared.fault.CardRefusal.{CardRefusal}
 use Rattle.card.specs.Entries.{card, field_bytes}
@@ -11,7 +11,7 @@ use Rattle.sheet.specs.Model.{Model}
 use Rattle.sheet.specs.Sound.{Sound}
 
 abbrev pub AllBytes : List ℕ → Type 0
-AllBytes bs = All (λ b. b < 256) bs
+AllBytes bs = AllByRecursion (λ b. b < 256) bs
 
 -- the bytes begin with this field, which is in order on the sheet m, and its call is not refused there
 pub record Taken (m : Model) (bs : List ℕ) (e : Entry) : Type 0 where

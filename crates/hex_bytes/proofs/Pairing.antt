@@ -5,7 +5,7 @@ use Rattle.std.proofs.lemmas.Str.Ascii.{encode_ascii}
 use Rattle.std.proofs.lemmas.Bool.Decides.{nat_tests}
 use Rattle.std.proofs.lemmas.List.{take_all, take_more}
 use Rattle.std.specs.Option.{option_map}
-use Rattle.std.specs.List.{AllByRecursion as All}
+use Rattle.std.specs.List.{AllByRecursion}
 use Rattle.hex_bytes.specs.Digits.{before, byte_of, character, digit_of, hex_of, hex_text, hex_word}
 
 -- at first none is read, and then one pair more
@@ -45,7 +45,7 @@ pair_text a b m n h k e d = rw (e, d, encode_ascii (character m) (character_asci
 digit_character : (n : ℕ) → n < 16 → digit_of (character n) ≡ Some n
 digit_character n h = grind (arith, nat_tests)
 
-pub hex_back : (bs : List ℕ) → All (λ b. b < 256) bs → hex_of (hex_text bs) ≡ Some bs
+pub hex_back : (bs : List ℕ) → AllByRecursion (λ b. b < 256) bs → hex_of (hex_text bs) ≡ Some bs
 hex_back [] h = refl
 hex_back (b ∷ bs) h =
     let lt : b / 16 < 16 = omega (arith, h.0) in

@@ -3,7 +3,7 @@ use Rattle.std.proofs.Common.{◌≡◌, ◌∙◌, option_map, ℕ, ◌+◌, �
 use Rattle.std.proofs.lemmas.Slice.Eq.{bytes_eq-Decides}
 use Rattle.std.proofs.lemmas.Bool.{and_right, cond_both, le-ltb, lt-ltb, ltb-false}
 use Rattle.std.proofs.lemmas.Bool.Decides.{nat_tests}
-use Rattle.std.specs.List.{AllByRecursion as All}
+use Rattle.std.specs.List.{AllByRecursion}
 use Rattle.std.specs.Str.{bytes_eq}
 use Rattle.hex_bytes.specs.declared.bytes.Bytes.{Bytes}
 use Rattle.hex_bytes.specs.declared.reading.NotHex.TheVariants.{NotPairs, TooLong}
@@ -55,12 +55,12 @@ pairs_length : (w bs : List ℕ) → Pairs w bs → length w ≡ 2 * length bs
 pairs_length w [] h = rw h refl
 pairs_length w (b ∷ bs) h = rw h.5 (omega (arith, pairs_length h.4 bs h.9))
 
-pairs_below : (w bs : List ℕ) → Pairs w bs → All (λ b. b < 256) bs
+pairs_below : (w bs : List ℕ) → Pairs w bs → AllByRecursion (λ b. b < 256) bs
 pairs_below w [] h = tt
 pairs_below w (b ∷ bs) h = (omega (arith, h.8, digit_below h.0 h.2 h.6, digit_below h.1 h.3 h.7), pairs_below h.4 bs h.9)
 
 -- the bytes that a word writes are bytes
-pub writes_below : (w bs : List ℕ) → Writes w bs → All (λ b. b < 256) bs
+pub writes_below : (w bs : List ℕ) → Writes w bs → AllByRecursion (λ b. b < 256) bs
 writes_below w [] h = tt
 writes_below w (b ∷ bs) h = pairs_below w (b ∷ bs) h
 
@@ -116,7 +116,7 @@ pub read_writes : (w : List ℕ) (b : Bytes) → from_hex_of w ≡ Ok b → Writ
 read_writes w b h = read_by (ltb longest (length w)) (bytes_of w) w b refl refl h
 
 -- the word of bytes writes them
-pub word_writes : (bs : List ℕ) → All (λ b. b < 256) bs → Writes (hex_word bs) bs
+pub word_writes : (bs : List ℕ) → AllByRecursion (λ b. b < 256) bs → Writes (hex_word bs) bs
 word_writes [] h = refl
 word_writes (b ∷ bs) h = hex_pairs (hex_text (b ∷ bs)) (b ∷ bs) (hex_back (b ∷ bs) h)
 

@@ -5,7 +5,7 @@ ghost use Rattle.hex_bytes.specs.Kept.{capacity, kept_as};
 ghost use Rattle.hex_bytes.specs.Reading.{from_hex_of, longest};
 ghost use Rattle.hex_bytes.specs.Writing.{Writes};
 ghost use Rattle.std.specs.Option.{option_map};
-ghost use Rattle.std.specs.List.{AllByRecursion as All};
+ghost use Rattle.std.specs.List.{AllByRecursion};
 ghost use Rattle.std.specs.Str.{bytes_eq};
 
 use crate::bytes::{Bytes, CAPACITY};
@@ -71,7 +71,7 @@ impl Bytes {
         ensures value { result ≡ from_hex_of word.now }
         ensures accepted { (b : Bytes) → result ≡ Ok b → (bs : List ℕ) × Writes word.now bs × (length bs ≤ capacity) × (b ≡ kept_as bs) }
         ensures spelled { (bs : List ℕ) → Writes word.now bs → length bs ≤ capacity → result ≡ Ok (kept_as bs) }
-        ensures back { (bs : List ℕ) → All (λ b. b < 256) bs → length bs ≤ capacity → word.now ≡ hex_word bs → result ≡ Ok (kept_as bs) }
+        ensures back { (bs : List ℕ) → AllByRecursion (λ b. b < 256) bs → length bs ≤ capacity → word.now ≡ hex_word bs → result ≡ Ok (kept_as bs) }
     {
         read(word)
     }

@@ -14,8 +14,8 @@ with_rest (Err e) ws = Err e
 
 -- what the first word writes, with the words after it
 abbrev pub first_as : {X : Type 0} → (List ℕ → Result X NotCall) → List (List ℕ) → Result (X × List (List ℕ)) NotCall
-first_as value_of_lem [] = Err WordMissing
-first_as value_of_lem (w ∷ ws) = with_rest (value_of_lem w) ws
+first_as value_of [] = Err WordMissing
+first_as value_of (w ∷ ws) = with_rest (value_of w) ws
 
 -- goes on with the value and the words after it, unless a word was wrong
 abbrev pub and_then : {X : Type 0} → Result (X × List (List ℕ)) NotCall → (X → List (List ℕ) → Result Call NotCall) → Result Call NotCall

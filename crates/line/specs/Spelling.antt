@@ -1,7 +1,7 @@
 -- Which words spell a call: its name, and then for each of its parts a word that writes it.
 use Rattle.std.specs.Prelude.{◌≡◌, ℕ, ◌<◌, true, List, [], ◌∷◌, length, Some, None, codes, Option}
 use Rattle.std.proofs.Math.Utf8.{encode, scalar}
-use Rattle.std.specs.Str.Parse.{digits_value as value}
+use Rattle.std.specs.Str.Parse.{digits_value}
 use Rattle.std.specs.Str.{all_ascii_digits}
 use Rattle.line.specs.declared.calls.Call.{Call}
 use Rattle.line.specs.declared.calls.Call.TheVariants.{Enter, Strike, Set, Blank, Mode, Clear, Show}
@@ -11,7 +11,7 @@ use Rattle.line.specs.Limits.{number_limit}
 pub record Numeral (w : List ℕ) (n : ℕ) : Type 0 where
   pub digits : all_ascii_digits w ≡ true
   pub some : 0 < length w
-  pub writes : value 10 w ≡ n
+  pub writes : digits_value 10 w ≡ n
   pub below : n < number_limit
 
 -- the word writes the share: `-` the blank one, and a numeral one that is given
