@@ -23,8 +23,9 @@ for calls in examples/*.sil tests/data/*.sil; do
     fi
 done
 
-# Every cut and every change of a short card: as the exact calculation counts them.
+# The stored run of the program, and every cut and every change of a short card: as the exact calculation has them.
 if command -v python3 >"$work/path"; then
+    python3 -B tests/exact.py crates/sil/stdin | cmp - crates/sil/stdout || fail "crates/sil/stdout: the exact calculation answers otherwise"
     python3 -B tests/card_changes.py | cmp - crates/card_changes/stdout || fail "card_changes: the exact calculation counts otherwise"
 fi
 

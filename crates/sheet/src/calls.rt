@@ -2,7 +2,7 @@
 ghost use Rattle.std.specs.Prelude.{◌≡◌, true, IfOk, Some, None, Ok, slice_index_or, slice_set};
 ghost use Rattle.std.specs.Borrow.{sem, follows};
 ghost use Rattle.sheet.specs.contracts.contents.Contents.{the_row};
-ghost use Rattle.sheet.specs.contracts.setting.PlaceRecord.{the_row as place-row};
+ghost use Rattle.sheet.specs.contracts.setting.PlaceRecord.{the_row as place_row};
 ghost use Rattle.sheet.specs.Limits.{allowed_or_blank};
 ghost use Rattle.sheet.specs.Model.{new_model, with_field};
 ghost use Rattle.sheet.specs.Settings.{blank_place, setting_number, setting_value};
@@ -23,7 +23,7 @@ use std::alloc::{AllocError, Global};
 impl Contents {
     // The record of one place, lent to be changed.
     fn place_mut(&mut self, place: Place) -> &mut PlaceRecord
-        ensures* follows { sem 𝓛 (follows the_row place-row self.entry.ghost_name result.ghost_name (λ w. record { mode = self.old.mode; places = slice_set self.old.places place.number w; rows = self.old.rows; any = tt })) }
+        ensures* follows { sem 𝓛 (follows the_row place_row self.entry.ghost_name result.ghost_name (λ w. record { mode = self.old.mode; places = slice_set self.old.places place.number w; rows = self.old.rows; any = tt })) }
         ensures value { result.now ≡ slice_index_or self.old.places place.number blank_place }
     {
         &mut self.places[place.number as usize]

@@ -88,7 +88,7 @@ impl VotingKind {
 
 impl Field {
     pub(crate) fn new(number: u32) -> Option<Field>
-        ensures { MatchOption result ((1 ≤ number → number ≤ 8 → ⊥)) (λ f. (field_number f ≡ number) × (1 ≤ number) × (number ≤ 8)) }
+        ensures { MatchOption result (1 ≤ number → number ≤ 8 → ⊥) (λ f. (field_number f ≡ number) × (1 ≤ number) × (number ≤ 8)) }
     {
         match number {
             1 => Some(Field::ProofTestInterval),

@@ -37,7 +37,7 @@ impl RateSums {
 
     // The sums of two, which are small enough to be added.
     fn plus(self, other: RateSums) -> RateSums
-        requires { (Bounded most_rows self) × (Bounded 1 other) }
+        requires { Bounded most_rows self × Bounded 1 other }
         ensures { result ≡ add_rates self other }
     {
         RateSums {
