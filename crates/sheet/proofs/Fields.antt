@@ -1,7 +1,7 @@
 -- A write to one record of the table of places is a write to one of the fields.
 use Rattle.std.proofs.Common.{◌≡◌, ℕ, zero, suc, ◌+◌, ◌-◌, ◌*◌, ◌%◌, ◌<◌, ◌≤◌, true, ◌⊎◌, List, [], ◌∷◌, ◌++◌, length, get_or, take, drop, set, replicate, Some, None, Ok, Option, sym, refl, ap, ◌∙◌, subst, inl, inr, ⊎_elim, zero-add, arith}
 use Rattle.std.proofs.lemmas.List.{set-append_left, set-append_right, get_or-set_same, get_or-set_other, length-append}
-use Rattle.sheet.specs.declared.setting.PlaceRecord.{PlaceRecord}
+use Rattle.sheet.specs.declared.record.PlaceRecord.{PlaceRecord}
 use Rattle.sheet.specs.declared.setting.Setting.{Setting}
 use Rattle.sheet.specs.Limits.{allowed, allowed_or_blank, Within}
 use Rattle.sheet.specs.Model.{Model, with_field}

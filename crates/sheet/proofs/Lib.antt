@@ -1,4 +1,5 @@
 pub mod Apart
+pub mod Optional
 pub mod Checks
 pub mod Fields
 pub mod Halves

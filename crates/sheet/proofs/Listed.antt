@@ -1,21 +1,17 @@
 -- The rows of the model against the rows that the unit keeps.
-use Rattle.std.proofs.Common.{◌≡◌, ℕ, zero, suc, ◌+◌, ◌<◌, ◌≤◌, List, [], ◌∷◌, ◌++◌, map, length, take, drop, Some, None, Ok, vec_items, vec_len, Option, sym, refl, ◌∙◌, subst, add-one, arith}
+use Rattle.std.proofs.Common.{◌≡◌, ℕ, zero, suc, ◌+◌, ◌<◌, ◌≤◌, List, [], ◌∷◌, ◌++◌, map, length, take, drop, Some, None, Ok, Option, refl, ◌∙◌, subst, add-one, arith}
 use Rattle.std.specs.List.{remove, slice_get}
 use Rattle.std.specs.Option.{option_map}
 use Rattle.std.proofs.lemmas.List.{length-map, map-append, take-map, drop-map}
-use Rattle.sheet.specs.declared.contents.Rows.{Rows}
 use Rattle.sheet.specs.declared.row.Row as unit
 use Rattle.sheet.specs.declared.share.Share.{Share}
-use Rattle.sheet.specs.declared.sheets.Sheet.{Sheet}
-use Rattle.sheet.specs.Holds.{rows_of, row_of, model}
+use Rattle.sheet.specs.declared.sheets.Sheet.TheInside.{Inside}
+use Rattle.sheet.specs.Holds.{Limited, model_of, row_of}
 use Rattle.sheet.specs.Laws.{OneRowOut}
 use Rattle.sheet.specs.Model.{Model, Row, without_row}
 use Rattle.sheet.specs.Sound.{Sound, RowWithin, ShareWithin}
 use Rattle.sheet.proofs.Fields.{all_fields_length}
 use Rattle.sheet.proofs.Apart.{none_some}
-
-pub rows_length : (rs : Rows) → length (rows_of rs) ≡ vec_len rs.list
-rows_length rs = length-map (vec_items rs.list) row_of ∙ sym rs.list.ok.0
 
 pub rows_removed : (xs : List unit.Row) (i : ℕ) → map row_of (remove xs i) ≡ take i (map row_of xs) ++ drop (suc i) (map row_of xs)
 rows_removed xs i = map-append row_of (take i xs) (drop (suc i) xs) ∙ rw (take-map row_of i xs, drop-map row_of (suc i) xs)
@@ -74,11 +70,11 @@ each_within (x ∷ rs) zero r e = let q : row_of x ≡ r = cc in let P : Row →
 each_within (x ∷ rs) (suc k) r e = each_within rs k r e
 
 -- every sheet is sound
-pub sound : (s : Sheet) → Sound (model s)
-sound s =
+pub sound : (s : Inside) → Limited s → Sound (model_of s)
+sound s h =
     record {
-      all_fields_stand = omega (arith, all_fields_length s.contents.places, s.eight);
-      settings_within = s.settings;
-      few_rows = omega (arith, rows_length s.contents.rows, s.contents.rows.few);
-      rows_within = each_within (vec_items s.contents.rows.list);
+      all_fields_stand = omega (arith, all_fields_length s.places, h.eight);
+      settings_within = h.settings;
+      few_rows = omega (arith, length-map s.rows row_of, h.few);
+      rows_within = each_within s.rows;
     }

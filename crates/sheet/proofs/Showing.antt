@@ -1,5 +1,5 @@
 -- What is read of a place's rows, and what show and the reader of sums answer of it.
-use Rattle.std.proofs.Common.{◌≡◌, ℕ, ◌<◌, ◌≤◌, List, length, IfSome, Some, None, Ok, Err, vec_items, Option, Result, sym, refl, ap, ◌∙◌, subst, le_antisymm, arith, MatchOption}
+use Rattle.std.proofs.Common.{◌≡◌, ℕ, ◌<◌, ◌≤◌, List, length, map, IfSome, Some, None, Ok, Err, Option, Result, sym, refl, ap, ◌∙◌, subst, le_antisymm, arith, MatchOption}
 use Rattle.std.proofs.lemmas.List.{nil_from_length}
 use Rattle.std.proofs.lemmas.Bool.{eq-eqb, ne_eqb, le-ltb}
 use Rattle.std.specs.Option.{ok_or}
@@ -8,12 +8,12 @@ use Rattle.sheet.specs.declared.fault.Fault.{Fault}
 use Rattle.sheet.specs.declared.fault.Refusal.{Refusal}
 use Rattle.sheet.specs.declared.rates.RateSums.{RateSums}
 use Rattle.sheet.specs.declared.show.Percentages.{Percentages}
-use Rattle.sheet.specs.declared.sheets.Sheet.{Sheet}
-use Rattle.sheet.specs.Holds.{model, rows_of}
+use Rattle.sheet.specs.declared.row.Row as unit
+use Rattle.sheet.specs.Holds.{row_of}
 use Rattle.sheet.specs.Kept.{SumsKept}
-use Rattle.sheet.specs.Limits.{last_place, most_rows}
+use Rattle.sheet.specs.Limits.{last_place}
 use Rattle.sheet.specs.Model.{Model, Row}
-use Rattle.sheet.specs.Rates.{total, rows_at, first_blank, failure_rate, no_rates, Bounded, ReadsSums, sums}
+use Rattle.sheet.specs.Rates.{total, rows_at, first_blank, failure_rate, no_rates, ReadsSums}
 use Rattle.sheet.specs.Refusals.{answer_of, refusal}
 use Rattle.sheet.specs.Rounding.{distance, Rounded}
 use Rattle.sheet.specs.Shown.{Shows, ShowsSums}
@@ -27,36 +27,28 @@ some_blank rs h e =
     let k : total rs ≡ Some no_rates = rw n in
     none_some (sym h ∙ k)
 
-module _ (s : Sheet) (p : ℕ) where
-  abbrev here : List Row
-  here = rows_of s.contents.rows
-
-  pub record SumsRead (o : Option RateSums) : Type 0 where
-    pub value : o ≡ sums (model s) p
-    pub bounded : IfSome o (λ x. Bounded most_rows x)
-    pub kept : IfSome o (λ x. SumsKept (model s) p x)
-
-  pub sums_read : (r : Result RateSums ℕ) → ReadsSums here p r → SumsRead (result_ok r)
-  sums_read (Ok x) h =
-      record { value = sym h.0; bounded = h.2; kept = sums_kept p (vec_items s.contents.rows.list) x h.0 }
-  sums_read (Err i) h = record { value = sym h.0; bounded = tt; kept = tt }
+-- the sums of a place of a sheet with these rows, and what is shown of them
+module _ (rs : List unit.Row) (m : Model) (stand : m.rows ≡ map row_of rs) (p : ℕ) where
+  pub sums_read : (r : Result RateSums ℕ) → ReadsSums (map row_of rs) p r → IfSome (result_ok r) (λ x. SumsKept m p x)
+  sums_read (Ok x) h = rw stand (sums_kept p rs x h.0)
+  sums_read (Err i) h = tt
 
   module _ (within : p ≤ last_place) where
-    pub shown : (x : RateSums) (o : Option Percentages) → total (rows_at p here) ≡ Some x → first_blank p here ≡ None
-        → MatchOption o (failure_rate x ≡ 0) (λ a. (0 < failure_rate x) × ShowsSums x a) → Shows (model s) p (answer_of (ok_or o (Fault.RowsMissing p)))
+    pub shown : (x : RateSums) (o : Option Percentages) → total (rows_at p (map row_of rs)) ≡ Some x → first_blank p (map row_of rs) ≡ None
+        → MatchOption o (failure_rate x ≡ 0) (λ a. (0 < failure_rate x) × ShowsSums x a) → Shows m p (answer_of (ok_or o (Fault.RowsMissing p)))
     shown x None sum none e =
-        let w = sums_kept p (vec_items s.contents.rows.list) x sum in
-        let n = no_rate p (vec_items s.contents.rows.list) (omega arith) in
-        rw (le-ltb 7 p (omega arith), eq-eqb (length (rows_at p here)) 0 n)
+        let w = sums_kept p rs x sum in
+        let n = no_rate p rs (omega arith) in
+        rw (stand, le-ltb 7 p (omega arith), eq-eqb (length (rows_at p (map row_of rs))) 0 n)
     shown x (Some a) sum none e =
-        let w = sums_kept p (vec_items s.contents.rows.list) x sum in
-        let n : length (rows_at p here) ≡ 0 → ⊥ = λ k. let z = no_rows p (vec_items s.contents.rows.list) k in omega (arith, e.0) in
-        (rw (le-ltb 7 p (omega arith), ne_eqb (length (rows_at p here)) 0 n, none), (x, sum, e.1))
+        let w = sums_kept p rs x sum in
+        let n : length (rows_at p (map row_of rs)) ≡ 0 → ⊥ = λ k. let z = no_rows p rs k in omega (arith, e.0) in
+        rw stand ((rw (le-ltb 7 p (omega arith), ne_eqb (length (rows_at p (map row_of rs))) 0 n, none), (x, sum, e.1)))
 
-    pub shown_blank : (i : ℕ) → total (rows_at p here) ≡ None → first_blank p here ≡ Some i
-        → Shows (model s) p (Err (refusal 12 (Some p) (Some i)))
+    pub shown_blank : (i : ℕ) → total (rows_at p (map row_of rs)) ≡ None → first_blank p (map row_of rs) ≡ Some i
+        → Shows m p (Err (refusal 12 (Some p) (Some i)))
     shown_blank i sum some =
-        rw (le-ltb 7 p (omega arith), ne_eqb (length (rows_at p here)) 0 (some_blank (rows_at p here) sum), some)
+        rw (stand, le-ltb 7 p (omega arith), ne_eqb (length (rows_at p (map row_of rs))) 0 (some_blank (rows_at p (map row_of rs)) sum), some)
 
 -- one number of tenths is nearest, and the upper of two
 rounded_one : (n d t u : ℕ) → Rounded n d t → Rounded n d u → t ≡ u

@@ -1,18 +1,17 @@
 -- The sums of a place, row by row.
-use Rattle.std.proofs.Common.{◌≡◌, ℕ, zero, suc, ◌+◌, ◌-◌, ◌<◌, ◌≤◌, Bool, true, false, not, ◌&&◌, eqb, List, [], ◌∷◌, map, length, get_or, drop, is_some, Some, None, vec_items, Option, sym, refl, ap, ◌∙◌, subst, inl, inr, add-zero, add_assoc, mul-le-mul, zero-add, arith}
+use Rattle.std.proofs.Common.{◌≡◌, ℕ, zero, suc, ◌+◌, ◌-◌, ◌<◌, ◌≤◌, Bool, true, false, not, ◌&&◌, eqb, List, [], ◌∷◌, map, length, get_or, drop, is_some, Some, None, Option, sym, refl, ap, ◌∙◌, subst, inl, inr, add-zero, add_assoc, mul-le-mul, zero-add, arith}
 use Rattle.std.specs.Option.{option_map}
 use Rattle.std.specs.List.{slice_get}
 use Rattle.std.proofs.lemmas.List.{drop_more, drop_all}
 use Rattle.std.proofs.lemmas.Bool.{eq-eqb, ne_eqb, eqb-true, cases_Bool, and_parts}
 use Rattle.sheet.specs.declared.rates.RateSums.{RateSums}
-use Rattle.sheet.specs.declared.contents.Rows.{Rows}
 use Rattle.sheet.specs.declared.row.Row as unit
 use Rattle.sheet.specs.declared.share.Share.{Share}
 use Rattle.sheet.specs.Limits.{greatest_rate, most_rows}
 use Rattle.sheet.specs.Kept.{FirstBlank}
 use Rattle.sheet.specs.Model.{Row}
 use Rattle.sheet.specs.Rates.{split, split_by, split_of, add_rates, add_splits, total, rows_at, blank_in, first_blank, Bounded, no_rates}
-use Rattle.sheet.specs.Holds.{row_of, rows_of}
+use Rattle.sheet.specs.Holds.{row_of}
 use Rattle.sheet.proofs.Apart.{none_some}
 
 add_rates_assoc : (x y z : RateSums) → add_rates (add_rates x y) z ≡ add_rates x (add_rates y z)
@@ -120,26 +119,19 @@ bounded_up m n x h b =
     record { safe_bound = omega arith; detected_bound = omega arith; undetected_bound = omega arith; safe_detected_bound = omega arith }
 
 -- the rows as the unit reads them: row i is next, or none is
-module _ (p : ℕ) (rs : Rows) (i : ℕ) (s : RateSums) (read : List unit.Row) (same : read ≡ vec_items rs.list)
-    (h : Summing p (rows_of rs) i (map row_of (drop i (vec_items rs.list))) s) where
-  pub sum_next : (r : unit.Row) → i < length read → r ≡ get_or read i r
-      → Summing p (rows_of rs) i (row_of r ∷ map row_of (drop (i + 1) (vec_items rs.list))) s
+module _ (p : ℕ) (rs : List unit.Row) (i : ℕ) (s : RateSums) (h : Summing p (map row_of rs) i (map row_of (drop i rs)) s) where
+  pub sum_next : (r : unit.Row) → i < length rs → r ≡ get_or rs i r
+      → Summing p (map row_of rs) i (row_of r ∷ map row_of (drop (i + 1) rs)) s
   sum_next r l e =
-      let k : i < length (vec_items rs.list) = rw (← same) l in
-      let d : r ≡ get_or (vec_items rs.list) i r = rw (← same) e in
-      let f : drop i (vec_items rs.list) ≡ r ∷ drop (i + 1) (vec_items rs.list) =
-      drop_more (vec_items rs.list) i r k ∙ ap (λ x. x ∷ drop (i + 1) (vec_items rs.list)) (sym d) in
-      let P : List unit.Row → Type 0 = λ l. Summing p (rows_of rs) i (map row_of l) s in
+      let f : drop i rs ≡ r ∷ drop (i + 1) rs = drop_more rs i r l ∙ ap (λ x. x ∷ drop (i + 1) rs) (sym e) in
+      let P : List unit.Row → Type 0 = λ l. Summing p (map row_of rs) i (map row_of l) s in
       subst P f h
 
-  pub sum_last : length read ≤ i → Summing p (rows_of rs) i [] s
-  sum_last l =
-      let k : length (vec_items rs.list) ≤ i = rw (← same) l in
-      let P : List unit.Row → Type 0 = λ l. Summing p (rows_of rs) i (map row_of l) s in
-      subst P (drop_all i (vec_items rs.list) k) h
+  pub sum_last : length rs ≤ i → Summing p (map row_of rs) i [] s
+  sum_last l = let P : List unit.Row → Type 0 = λ l. Summing p (map row_of rs) i (map row_of l) s in subst P (drop_all i rs l) h
 
-  pub few_so_far : i ≤ length read → Bounded most_rows s
-  few_so_far l = let n : length (vec_items rs.list) ≤ 64 = omega (arith, rs.list.ok.0) in let k : i ≤ length (vec_items rs.list) = rw (← same) l in bounded_up i most_rows s (omega arith) h.bounded
+pub few_so_far : (i : ℕ) (rs : List unit.Row) (s : RateSums) → i ≤ length rs → length rs ≤ most_rows → Bounded i s → Bounded most_rows s
+few_so_far i rs s l n h = bounded_up i most_rows s (omega arith) h
 
 no_split : (o : Option RateSums) → not (is_some o) ≡ true → o ≡ None
 no_split None h = refl

@@ -1,10 +1,9 @@
 -- What the unit's sheet holds, as a model.
-use Rattle.std.specs.Prelude.{List, map, vec_items}
+use Rattle.std.specs.Prelude.{◌≡◌, ◌≤◌, length, map}
 use Rattle.std.specs.Option.{option_map}
 use Rattle.sheet.specs.declared.row.Row as unit
-use Rattle.sheet.specs.declared.contents.Contents.{Contents}
-use Rattle.sheet.specs.declared.contents.Rows.{Rows}
-use Rattle.sheet.specs.declared.sheets.Sheet.{Sheet}
+use Rattle.sheet.specs.declared.sheets.Sheet.TheInside.{Inside}
+use Rattle.sheet.specs.Limits.{Within, most_rows}
 use Rattle.sheet.specs.Model.{Model, Row}
 use Rattle.sheet.specs.Settings.{all_fields}
 
@@ -17,12 +16,12 @@ row_of r =
       coverage = option_map (λ s. s.thousandths) r.coverage;
     }
 
-abbrev pub rows_of : Rows → List Row
-rows_of rs = map row_of (vec_items rs.list)
+-- the mode, the fields and the rows that the unit keeps
+abbrev pub model_of : Inside → Model
+model_of s = record { mode = s.mode; fields = all_fields s.places; rows = map row_of s.rows }
 
-abbrev pub contents_model : Contents → Model
-contents_model c = record { mode = c.mode; fields = all_fields c.places; rows = rows_of c.rows }
-
--- the mode, the fields and the rows of a sheet
-abbrev pub model : Sheet → Model
-model s = contents_model s.contents
+-- there are eight places and at most 64 rows, and every setting is within its limits
+pub record Limited (s : Inside) : Type 0 where
+  pub eight : length s.places ≡ 8
+  pub settings : Within (all_fields s.places)
+  pub few : length s.rows ≤ most_rows

@@ -2,6 +2,7 @@ pub mod Limits
 pub mod Model
 pub mod Settings
 pub mod Refusals
+pub mod Texts
 pub mod Rates
 pub mod Calls
 pub mod Holds

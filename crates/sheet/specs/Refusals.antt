@@ -1,11 +1,17 @@
 -- The sheet's refusals, and how the first check that fails decides a call.
 use Rattle.std.specs.Prelude.{ℕ, Bool, cond, List, [], ◌∷◌, Some, None, Ok, Err, Option, Result}
 use Rattle.sheet.specs.declared.fault.Fault.{Fault}
+use Rattle.sheet.specs.declared.fault.Layer.{Layer}
 use Rattle.sheet.specs.declared.fault.Refusal.{Refusal}
 
--- a refusal of the sheet, which is layer 1: its number, and the place and the item that it names
+-- the number that a layer of the unit is told by
+abbrev pub layer_number : Layer → ℕ
+layer_number Layer.Sheet = 1
+layer_number Layer.Card = 4
+
+-- a refusal of the sheet: its number, and the place and the item that it names
 abbrev pub refusal : ℕ → Option ℕ → Option ℕ → Refusal
-refusal n p i = record { number = n; place = p; item = i; layer = 1 }
+refusal n p i = record { number = n; place = p; item = i; layer = Layer.Sheet }
 
 -- every fault, by its refusal
 abbrev pub refusal_of : Fault → Refusal

@@ -1,11 +1,11 @@
 -- The settings as the unit keeps them, by the numbers of the fields and of their values.
 use Rattle.std.specs.Prelude.{ℕ, List, [], ◌∷◌, ◌++◌, None, Option}
 use Rattle.std.specs.Option.{option_map}
-use Rattle.sheet.specs.declared.setting.ComponentType.{ComponentType}
-use Rattle.sheet.specs.declared.setting.VotingKind.{VotingKind}
-use Rattle.sheet.specs.declared.setting.Field.{Field}
+use Rattle.sheet.specs.declared.choice.ComponentType.{ComponentType}
+use Rattle.sheet.specs.declared.choice.VotingKind.{VotingKind}
+use Rattle.sheet.specs.declared.field.Field.{Field}
 use Rattle.sheet.specs.declared.setting.Setting.{Setting}
-use Rattle.sheet.specs.declared.setting.PlaceRecord.{PlaceRecord}
+use Rattle.sheet.specs.declared.record.PlaceRecord.{PlaceRecord}
 
 -- the code of the letter A or B
 abbrev pub component_code : ComponentType → ℕ

@@ -3,13 +3,15 @@
 #![tactic(auto)]
 
 mod calls;
-mod contents;
+mod choice;
 mod fault;
+mod field;
 mod limits;
 mod mode;
 mod place;
 mod rates;
 mod readers;
+mod record;
 mod row;
 mod rows;
 mod setting;
@@ -18,7 +20,7 @@ mod sheets;
 mod show;
 mod split;
 
-pub use fault::{Fault, Refusal};
+pub use fault::{Fault, Layer, Refusal};
 pub use mode::Mode;
 pub use place::Place;
 pub use rates::RateSums;
@@ -59,14 +61,16 @@ mod tests {
         assert!(rt; sheet.enter(3, 1, Some(0), None).is_ok());
         assert!(rt; sums_at(&sheet, 2).is_some());
         assert!(rt; sums_at(&sheet, 3).is_none());
-        let refusal = match sheet.show(3) {
-            Ok(_) => return Err(Fail::new("a blank share was shown")),
-            Err(fault) => fault.refusal(),
-        };
+        let fault = sheet.show(3).err().ok_or("a blank share was shown")?;
+        let refusal = Refusal::from(fault);
         assert_eq!(rt; refusal.number, 12);
         assert_eq!(rt; refusal.place, Some(3));
         assert_eq!(rt; refusal.item, Some(1));
-        assert_eq!(rt; refusal.layer, 1);
+        assert_eq!(rt; u8::from(refusal.layer), 1);
+        assert_eq!(rt;
+            format!(in rt.alloc(); "{fault}")?.as_str(),
+            "safe share or coverage blank"
+        );
         Ok(())
     }
 

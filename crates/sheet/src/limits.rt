@@ -1,10 +1,12 @@
 // What may be entered: shares and rows within their limits.
-ghost use Rattle.std.specs.Prelude.{◌≡◌, true, false, MatchOption};
+ghost use Rattle.std.specs.Prelude.{◌≡◌, ◌<◌, ◌≤◌, true, false, MatchResult};
 ghost use Rattle.std.specs.Option.{option_map};
 ghost use Rattle.sheet.specs.Calls.{over_share};
+ghost use Rattle.sheet.specs.Limits.{greatest_share};
 ghost use Rattle.sheet.specs.Parts.{MakesRow};
 
 use crate::fault::Fault;
+use crate::field::OutsideLimits;
 use crate::place::Place;
 use crate::row::Row;
 use crate::share::Share;
@@ -13,21 +15,23 @@ use crate::share::Share;
 const GREATEST_RATE: u32 = 100_000_000;
 
 impl Share {
-    // A share that may be blank; none where it is over 1,000 thousandths.
-    fn optional(thousandths: Option<u32>) -> Option<Option<Share>>
-        ensures { MatchOption result (over_share thousandths ≡ true) (λ s. (over_share thousandths ≡ false) × (option_map (λ x. x.thousandths) s ≡ thousandths)) }
+    // The share of so many thousandths, if it is no more than the whole.
+    fn new(thousandths: u32) -> Result<Share, OutsideLimits>
+        ensures { MatchResult result (λ s. (thousandths ≤ greatest_share) × (s.thousandths ≡ thousandths)) (λ _. greatest_share < thousandths) }
     {
-        match thousandths {
-            None => Some(None),
-            Some(n) => {
-                if n > 1000 {
-                    return None;
-                }
-                Some(Some(Share {
-                    thousandths: n as u16,
-                }))
-            }
+        if thousandths > 1000 {
+            return Err(OutsideLimits);
         }
+        Ok(Share {
+            thousandths: thousandths as u16,
+        })
+    }
+
+    // A share that may be blank.
+    fn optional(thousandths: Option<u32>) -> Result<Option<Share>, OutsideLimits>
+        ensures { MatchResult result (λ s. (over_share thousandths ≡ false) × (option_map (λ x. x.thousandths) s ≡ thousandths)) (λ _. over_share thousandths ≡ true) }
+    {
+        thousandths.map(Share::new).transpose()
     }
 }
 
@@ -41,20 +45,16 @@ impl Row {
     ) -> Result<Row, Fault>
         ensures { MakesRow place rate safe coverage result }
     {
-        let Some(at) = Place::new(place) else {
-            return Err(Fault::PlaceOver { place, item: None });
-        };
-        if rate < 1 || rate > GREATEST_RATE {
+        let at = Place::new(place).ok_or(Fault::PlaceOver { place, item: None })?;
+        if !(1..=GREATEST_RATE).contains(&rate) {
             return Err(Fault::RateOutside { place });
         }
-        match (Share::optional(safe), Share::optional(coverage)) {
-            (Some(safe), Some(coverage)) => Ok(Row {
-                place: at,
-                rate,
-                safe,
-                coverage,
-            }),
-            _ => Err(Fault::ShareOver { place }),
-        }
+        let over = |_| Fault::ShareOver { place };
+        Ok(Row {
+            place: at,
+            rate,
+            safe: Share::optional(safe).map_err(over)?,
+            coverage: Share::optional(coverage).map_err(over)?,
+        })
     }
 }

@@ -3,7 +3,7 @@ ghost use Rattle.std.specs.Prelude.{◌≡◌, ◌<◌, ◌≤◌, MatchOption};
 ghost use Rattle.sheet.specs.Limits.{last_place};
 
 // One of the eight places, 0 to 7. All rows of a place describe one of its like channels.
-#[derive(Clone, Copy)]
+#[derive(Clone, Copy, PartialEq, Eq, Debug)]
 pub struct Place {
     pub number: u8,
     ghost within: { number ≤ last_place },

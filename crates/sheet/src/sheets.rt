@@ -1,14 +1,26 @@
-// The sheet as its users hold it: contents whose settings are all within their limits.
-ghost use Rattle.std.specs.Prelude.{◌≡◌, length};
-ghost use Rattle.sheet.specs.Limits.{Within};
-ghost use Rattle.sheet.specs.Settings.{all_fields};
-
-use crate::contents::Contents;
+// The sheet as its users hold it.
+use crate::mode::Mode;
+use crate::record::PlaceRecord;
+use crate::rows::Rows;
+use std::marker::Model;
 
 // A mode, eight places with eight fields each, and up to 64 rows.
 #[derive(Drop)]
 pub struct Sheet {
-    pub(crate) contents: Contents,
-    ghost eight: { length contents.places ≡ 8 },
-    ghost settings: { Within (all_fields contents.places) },
+    pub(crate) mode: Option<Mode>,
+    pub(crate) places: [PlaceRecord; 8],
+    pub(crate) rows: Rows,
+}
+
+// A sheet is seen as what stands on it, and every setting on it is within its limits.
+impl Model for Sheet {
+    ghost use Rattle.sheet.specs.Model.{Model};
+
+    ghost Value = { Model };
+
+    ghost use Rattle.sheet.specs.Holds.{Limited, model_of};
+
+    ghost view = { model_of };
+
+    ghost invariant = { Limited };
 }

@@ -1,8 +1,9 @@
 // The failure rates of a place, its safe failure fraction and its diagnostic coverage.
-ghost use Rattle.std.specs.Prelude.{◌≡◌, ℕ, ◌+◌, ◌*◌, ◌/◌, ◌<◌, ◌≤◌, IfSome, Some, Result, MatchOption};
+ghost use Rattle.std.specs.Prelude.{◌≡◌, ℕ, ◌+◌, ◌*◌, ◌/◌, ◌<◌, ◌≤◌, IfSome, Some, Result, MatchOption, map};
+ghost use Rattle.sheet.specs.Holds.{row_of};
+ghost use Rattle.sheet.specs.Model.{Model};
 ghost use Rattle.sheet.specs.declared.fault.Refusal.{Refusal};
 ghost use Rattle.sheet.specs.declared.show.Percentages.{Percentages};
-ghost use Rattle.sheet.specs.Holds.{model};
 ghost use Rattle.sheet.specs.Kept.{FirstBlank, RowsKept, SumsKept};
 ghost use Rattle.sheet.specs.Limits.{most_rows};
 ghost use Rattle.sheet.specs.Rates.{sums, Bounded, failure_rate, first_blank};
@@ -14,10 +15,11 @@ ghost use Rattle.sheet.specs.Sound.{Sound};
 use crate::fault::Fault;
 use crate::place::Place;
 use crate::rates::RateSums;
+use crate::rows::Rows;
 use crate::sheets::Sheet;
 
 // In tenths of a per cent. A place with no dangerous failures has no diagnostic coverage.
-#[derive(Clone, Copy)]
+#[derive(Clone, Copy, PartialEq, Eq, Debug)]
 pub struct Percentages {
     pub sff: u32,
     pub diagnostic_coverage: Option<u32>,
@@ -50,46 +52,45 @@ impl RateSums {
         ensures { MatchOption result (failure_rate self ≡ 0) (λ a. (0 < failure_rate self) × ShowsSums self a) }
     {
         let dangerous = self.dangerous_detected + self.dangerous_undetected;
-        let sff = tenths(self.safe + self.dangerous_detected, self.safe + dangerous)?;
-        let diagnostic_coverage = tenths(self.dangerous_detected, dangerous);
         Some(Percentages {
-            sff,
-            diagnostic_coverage,
+            sff: tenths(self.safe + self.dangerous_detected, self.safe + dangerous)?,
+            diagnostic_coverage: tenths(self.dangerous_detected, dangerous),
         })
+    }
+}
+
+impl Rows {
+    // The percentages of a place of a sheet with these rows.
+    fn percentages(&self, place: u32) -> Result<Percentages, Fault>
+        ensures { (m : Model) → m.rows ≡ map row_of self.now → Shows m place (answer_of result) }
+    {
+        let at = Place::new(place).ok_or(Fault::PlaceOver { place, item: None })?;
+        let sums = self
+            .sums(at)
+            .map_err(|row| Fault::ShareBlank { place, row })?;
+        // Every row has a rate, so that where nothing is summed no row stands.
+        sums.percentages().ok_or(Fault::RowsMissing { place })
     }
 }
 
 impl Sheet {
     // The four rate sums of a place, or none where a share of one of its rows is blank.
     pub fn rate_sums(&self, place: Place) -> Option<RateSums>
-        ensures value { result ≡ sums (model self.now) place.number }
+        ensures value { result ≡ sums self.now place.number }
         ensures bounded { IfSome result (λ x. Bounded most_rows x) }
-        ensures kept { IfSome result (λ x. SumsKept (model self.now) place.number x) }
+        ensures kept { IfSome result (λ x. SumsKept self.now place.number x) }
     {
-        self.contents.rows.sums(place).ok()
-    }
-
-    fn percentages_at(&self, place: u32) -> Result<Percentages, Fault>
-        ensures { Shows (model self.now) place (answer_of result) }
-    {
-        let Some(at) = Place::new(place) else {
-            return Err(Fault::PlaceOver { place, item: None });
-        };
-        match self.contents.rows.sums(at) {
-            // Every row has a rate, so that where nothing is summed no row stands.
-            Ok(sums) => sums.percentages().ok_or(Fault::RowsMissing { place }),
-            Err(row) => Err(Fault::ShareBlank { place, row }),
-        }
+        self.rows.sums(place).ok()
     }
 
     // The safe failure fraction and the diagnostic coverage of a place.
     pub fn show(&self, place: u32) -> Result<Percentages, Fault>
-        ensures answer { Shows (model self.now) place (answer_of result) }
-        ensures no_other { (a : Result Percentages Refusal) → Shows (model self.now) place a → a ≡ answer_of result }
-        ensures blank_row { (i : ℕ) → first_blank place (model self.now).rows ≡ Some i → FirstBlank (model self.now).rows place i }
-        ensures rows_kept { RowsKept (model self.now) }
-        ensures sound { Sound (model self.now) }
+        ensures answer { Shows self.now place (answer_of result) }
+        ensures no_other { (a : Result Percentages Refusal) → Shows self.now place a → a ≡ answer_of result }
+        ensures blank_row { (i : ℕ) → first_blank place self.now.rows ≡ Some i → FirstBlank self.now.rows place i }
+        ensures rows_kept { RowsKept self.now }
+        ensures sound { Sound self.now }
     {
-        self.percentages_at(place)
+        self.rows.percentages(place)
     }
 }

@@ -1,13 +1,13 @@
 // How a row's failure rate splits, and the sums of the rows of a place.
-ghost use Rattle.std.specs.Prelude.{◌≡◌};
+ghost use Rattle.std.specs.Prelude.{◌≡◌, map};
 ghost use Rattle.sheet.specs.Limits.{most_rows};
 ghost use Rattle.sheet.specs.Rates.{split_of, add_rates, Bounded, ReadsSums};
-ghost use Rattle.sheet.specs.Holds.{row_of, rows_of};
+ghost use Rattle.sheet.specs.Holds.{row_of};
 
-use crate::contents::Rows;
 use crate::place::Place;
 use crate::rates::RateSums;
 use crate::row::Row;
+use crate::rows::Rows;
 
 impl Row {
     // The row's rate split into four, unless a share is blank.
@@ -52,15 +52,12 @@ impl RateSums {
 impl Rows {
     // The four sums of a place, or the number of its first row with a blank share.
     pub(crate) fn sums(&self, place: Place) -> Result<RateSums, u32>
-        ensures { ReadsSums (rows_of self.now) place.number result }
+        ensures { ReadsSums (map row_of self.now) place.number result }
     {
         let mut sums = RateSums::NONE;
-        for (i, row) in self.list.iter().enumerate() {
+        for (i, row) in self.as_slice().iter().enumerate() {
             if row.place.number == place.number {
-                let Some(split) = row.split() else {
-                    return Err(i as u32);
-                };
-                sums = sums.plus(split);
+                sums = sums.plus(row.split().ok_or(i as u32)?);
             }
         }
         Ok(sums)

@@ -1,12 +1,8 @@
-use Rattle.std.proofs.Common.{Option, sym, subst}
-use Rattle.sheet.specs.declared.rates.RateSums.{RateSums}
-use Rattle.sheet.proofs.Showing.{SumsRead, sums_read}
+use Rattle.std.proofs.Common.{refl}
+use Rattle.sheet.proofs.Showing.{sums_read}
 use Rattle.sheet.proofs.sheets.Sheet.rate_sums.Goals as goal
 
-pub returns : goal.returns
-returns c =
-    let s = c.args.self.now in
-    let p = c.args.place.number in
-    let P : Option RateSums → Type 0 = SumsRead s p in
-    let h = subst P (sym c.ok.ensures.value) (sums_read s p c.sums.result c.sums.ensures) in
-    record { value = h.value; bounded = h.bounded; kept = h.kept }
+pub returns-clause-kept : goal.returns-clause-kept
+returns-clause-kept c =
+    rw c.ok.ensures.value
+    (sums_read c.self.inside.rows c.args.self.now (rw (← c.self.view_is) refl) c.args.place.number c.sums.result c.sums.ensures)

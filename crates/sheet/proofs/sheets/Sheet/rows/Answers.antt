@@ -1,5 +1,5 @@
 use Rattle.sheet.proofs.Listed.{sound}
 use Rattle.sheet.proofs.sheets.Sheet.rows.Goals as goal
 
-pub returns : goal.returns
-returns c = record { rows = c.in_order.ensures; sound = sound c.args.self.now }
+pub returns-clause-sound : goal.returns-clause-sound
+returns-clause-sound c = rw (← c.self.view_is) (sound c.self.inside c.self.invariant)

@@ -1,38 +1,35 @@
-use Rattle.std.proofs.Common.{◌≡◌, ◌<◌, true, false, leb, map, length, Ok, Err, vec_items, sym, refl, ap, ◌∙◌, subst, arith}
-use Rattle.std.proofs.lemmas.Bool.Decides.{nat_tests}
-use Rattle.sheet.specs.declared.fault.Fault.{Fault}
-use Rattle.sheet.specs.Holds.{row_of, model}
+use Rattle.std.proofs.Common.{◌≡◌, ◌<◌, ◌≤◌, false, leb, map, length, Ok, sym, ap, ◌∙◌, subst, arith}
+use Rattle.std.proofs.lemmas.Bool.{lt-leb}
+use Rattle.std.proofs.lemmas.List.{length-map}
+use Rattle.std.proofs.lemmas.Option.{MatchOption-at_some}
+use Rattle.std.specs.List.{remove}
+use Rattle.sheet.specs.Holds.{row_of, model_of}
 use Rattle.sheet.specs.Laws.{OneRowOut}
-use Rattle.sheet.specs.Model.{Model}
-use Rattle.sheet.proofs.Listed.{with_rows, rows_length, rows_removed, one_row_out}
+use Rattle.sheet.specs.Model.{Model, without_row}
+use Rattle.sheet.proofs.Listed.{with_rows, rows_removed, one_row_out}
+use Rattle.sheet.proofs.Optional.{from_ok}
 use Rattle.sheet.proofs.sheets.Sheet.strike.Goals as goal
 
-pub returns-then-remove : goal.returns-then-remove
-returns-then-remove c =
-    let m = model c.args.self.now in
-    let i = c.args.row in
-    let n = rows_length c.args.self.now.contents.rows in
-    let t = c.if-remove.ensures.answer in
-    let l : i < length m.rows = grind (arith, nat_tests) in
-    let z : leb (length m.rows) i ≡ false = grind (arith, nat_tests) in
-    let e = ap (with_rows m) (ap (map row_of) c.if-remove.ensures.after ∙ rows_removed (vec_items c.args.self.now.contents.rows.list) i) in
-    let P : Model → Type 0 = λ k. OneRowOut i m k (Ok tt) in
-    record { answer = rw z; after = rw z e; one_row_out = subst P (sym e) (one_row_out m i l); unchanged = tt }
+-- the row stood, and was removed
+removed : (c : goal.In_ok-ok_or) → (c.args.row < length c.self.inside.rows) × (c.remove.new.self ≡ remove c.self.inside.rows c.args.row)
+removed c =
+    MatchOption-at_some ((length c.self.inside.rows ≤ c.args.row) × (c.remove.new.self ≡ c.self.inside.rows))
+    (λ _. (c.args.row < length c.self.inside.rows) × (c.remove.new.self ≡ remove c.self.inside.rows c.args.row)) c.in_ok-ok_or.field-0
+    (from_ok c.remove.result _ c.in_ok-ok_or.field-0 (sym c.ok_or.ensures.value ∙ c.in_ok-ok_or.was)) c.remove.ensures
 
-pub returns-else-remove : goal.returns-else-remove
-returns-else-remove c =
-    let m = model c.args.self.now in
-    let i = c.args.row in
-    let n = rows_length c.args.self.now.contents.rows in
-    let t = c.if-remove.ensures.answer in
-    let z : leb (length m.rows) i ≡ true = grind (arith, nat_tests) in
-    let e = ap (with_rows m) (ap (map row_of) c.if-remove.ensures.after) in
-    let P : Model → Type 0 = λ k. OneRowOut i m k (Err (Fault.RowBeyond i)) in
-    record {
-      answer = rw z;
-      after = rw z e;
-      one_row_out =
-          subst P (sym e)
-          (record { earlier_rows = λ k h. refl; later_rows = tt; one_fewer = tt; same_mode = refl; same_fields = refl });
-      unchanged = e;
-    }
+after : (c : goal.In_ok-ok_or) → with_rows (model_of c.self.inside) (map row_of c.remove.new.self) ≡ without_row (model_of c.self.inside) c.args.row
+after c = ap (with_rows (model_of c.self.inside)) (ap (map row_of) (removed c).1 ∙ rows_removed c.self.inside.rows c.args.row)
+
+stood : (c : goal.In_ok-ok_or) → c.args.row < length (map row_of c.self.inside.rows)
+stood c = omega (arith, (removed c).0, length-map c.self.inside.rows row_of)
+
+pub returns-clause-after : goal.returns-clause-after
+returns-clause-after c =
+    let z : leb (length (map row_of c.self.inside.rows)) c.args.row ≡ false = lt-leb _ _ (stood c) in
+    rw (← c.self.view_is, z) (after c)
+
+pub returns-clause-one_row_out : goal.returns-clause-one_row_out
+returns-clause-one_row_out c =
+    let m = model_of c.self.inside in
+    let P : Model → Type 0 = λ k. OneRowOut c.args.row m k (Ok tt) in
+    rw (← c.self.view_is) (subst P (sym (after c)) (one_row_out m c.args.row (stood c)))

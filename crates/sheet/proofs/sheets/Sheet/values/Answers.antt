@@ -4,6 +4,7 @@ use Rattle.sheet.proofs.sheets.Sheet.values.Goals as goal
 
 pub returns : goal.returns
 returns c =
-    let s = c.args.self.now in
+    let s = c.self.inside in
     let p = c.args.place in
-    c.values.ensures ∙ sym (place_record s.contents.places p.number (omega (arith, p.within, s.eight)))
+    rw (← c.self.view_is, ← c.from.ensures)
+    (c.values.ensures ∙ sym (place_record s.places c.from.result (omega (arith, p.within, c.from.ensures, c.self.invariant.eight))))
