@@ -7,7 +7,7 @@ use Rattle.sheet.specs.Limits.{allowed, allowed_or_blank, Within}
 use Rattle.sheet.specs.Model.{Model, with_field}
 use Rattle.sheet.specs.Settings.{fields_of, all_fields, blank_place, setting_number}
 use Rattle.sheet.specs.Laws.{OneField}
-use Rattle.sheet.proofs.Apart.{none_some}
+use Rattle.std.proofs.lemmas.Option.{none-some}
 
 all_fields_set : (rs : List PlaceRecord) (p : ℕ) (r : PlaceRecord) (j : ℕ) (v : Option ℕ) → j < 8
     → fields_of r ≡ set (fields_of (get_or rs p blank_place)) j v → all_fields (set rs p r) ≡ set (all_fields rs) (8 * p + j) v
@@ -65,7 +65,7 @@ none_of (suc n) (suc i) = none_of n i
 
 -- fields that are all blank
 pub within_blank : (n : ℕ) → Within (replicate n None)
-within_blank n i v e = none_some (sym (none_of n i) ∙ e)
+within_blank n i v e = absurd (none-some _ (sym (none_of n i) ∙ e))
 
 -- eight fields for each place
 pub all_fields_length : (rs : List PlaceRecord) → length (all_fields rs) ≡ 8 * length rs

@@ -8,7 +8,7 @@ use Rattle.sheet.specs.declared.share.Share.{Share}
 use Rattle.sheet.specs.Model.{Row}
 use Rattle.sheet.specs.Rates.{split, split_by, split_of, add_rates, add_splits, total, rows_at, rate_at, failure_rate}
 use Rattle.sheet.specs.Holds.{row_of}
-use Rattle.sheet.proofs.Apart.{none_some}
+use Rattle.std.proofs.lemmas.Option.{none-some}
 
 split_kept : (rate s dc : ℕ) → s ≤ 1000 → dc ≤ 1000 → failure_rate (split rate s dc) ≡ 1000000 * rate
 split_kept rate s dc a b =
@@ -20,8 +20,8 @@ split_kept rate s dc a b =
 
 shares_kept : (rate : ℕ) (s dc : Option Share) (x : RateSums)
     → split_by rate (option_map (λ a. a.thousandths) s) (option_map (λ a. a.thousandths) dc) ≡ Some x → failure_rate x ≡ 1000000 * rate
-shares_kept rate None dc x e = none_some e
-shares_kept rate (Some a) None x e = none_some e
+shares_kept rate None dc x e = absurd (none-some _ e)
+shares_kept rate (Some a) None x e = absurd (none-some _ e)
 shares_kept rate (Some a) (Some b) x e =
     let q : x ≡ split rate a.thousandths b.thousandths = cc in
     rw q (split_kept rate a.thousandths b.thousandths a.within b.within)
@@ -31,8 +31,8 @@ row_kept r x e = shares_kept r.rate r.safe r.coverage x e
 
 add_splits_parts : (o q : Option RateSums) (x : RateSums) → add_splits o q ≡ Some x
     → (a : RateSums) × (b : RateSums) × (o ≡ Some a) × (q ≡ Some b) × (x ≡ add_rates a b)
-add_splits_parts None q x e = none_some e
-add_splits_parts (Some a) None x e = none_some e
+add_splits_parts None q x e = absurd (none-some _ e)
+add_splits_parts (Some a) None x e = absurd (none-some _ e)
 add_splits_parts (Some a) (Some b) x e = (a, b, refl, refl, cc)
 
 -- the sums of a place
@@ -54,7 +54,7 @@ sums_kept p (r ∷ rs) x e =
 -- the sums of each row
 pub rows_kept : (rs : List unit.Row) (k : ℕ) (r : Row) (y : RateSums) → slice_get (map row_of rs) k ≡ Some r → split_of r ≡ Some y
     → failure_rate y ≡ 1000000 * r.rate
-rows_kept [] k r y e f = none_some e
+rows_kept [] k r y e f = absurd (none-some _ e)
 rows_kept (x ∷ rs) zero r y e f =
     let q : row_of x ≡ r = cc in
     let P : Row → Type 0 = λ w. split_of w ≡ Some y → failure_rate y ≡ 1000000 * w.rate in

@@ -1,6 +1,4 @@
-pub mod Apart
-pub mod Optional
-pub mod Checks
+pub mod Results
 pub mod Fields
 pub mod Halves
 pub mod Listed

@@ -1,7 +1,8 @@
 -- The rows of the model against the rows that the unit keeps.
-use Rattle.std.proofs.Common.{◌≡◌, ℕ, zero, suc, ◌+◌, ◌<◌, ◌≤◌, List, [], ◌∷◌, ◌++◌, map, length, take, drop, Some, None, Ok, Option, refl, ◌∙◌, subst, add-one, arith}
+use Rattle.std.proofs.Common.{◌≡◌, ℕ, zero, suc, ◌<◌, ◌≤◌, List, [], ◌∷◌, ◌++◌, map, length, take, drop, Some, None, Ok, Option, refl, ◌∙◌, subst, add-one, arith}
 use Rattle.std.specs.List.{remove, slice_get}
 use Rattle.std.specs.Option.{option_map}
+use Rattle.std.proofs.lemmas.List.Edits.{length-remove}
 use Rattle.std.proofs.lemmas.List.{length-map, map-append, take-map, drop-map}
 use Rattle.sheet.specs.declared.row.Row as unit
 use Rattle.sheet.specs.declared.share.Share.{Share}
@@ -11,7 +12,7 @@ use Rattle.sheet.specs.Laws.{OneRowOut}
 use Rattle.sheet.specs.Model.{Model, Row, without_row}
 use Rattle.sheet.specs.Sound.{Sound, RowWithin, ShareWithin}
 use Rattle.sheet.proofs.Fields.{all_fields_length}
-use Rattle.sheet.proofs.Apart.{none_some}
+use Rattle.std.proofs.lemmas.Option.{none-some}
 
 pub rows_removed : (xs : List unit.Row) (i : ℕ) → map row_of (remove xs i) ≡ take i (map row_of xs) ++ drop (suc i) (map row_of xs)
 rows_removed xs i = map-append row_of (take i xs) (drop (suc i) xs) ∙ rw (take-map row_of i xs, drop-map row_of (suc i) xs)
@@ -35,23 +36,18 @@ removed_later (x ∷ xs) zero k h = refl
 removed_later (x ∷ xs) (suc i) zero h = absurd (omega arith)
 removed_later (x ∷ xs) (suc i) (suc k) h = removed_later xs i k (omega arith)
 
-removed_length : (xs : List Row) (i : ℕ) → i < length xs → length (take i xs ++ drop (suc i) xs) + 1 ≡ length xs
-removed_length [] i h = absurd (omega arith)
-removed_length (x ∷ xs) zero h = omega arith
-removed_length (x ∷ xs) (suc i) h = let e = removed_length xs i (omega arith) in omega arith
-
 pub one_row_out : (m : Model) (i : ℕ) → i < length m.rows → OneRowOut i m (without_row m i) (Ok tt)
 one_row_out m i h =
     record {
       earlier_rows = removed_earlier m.rows i;
       later_rows = λ k l. rw (add-one k) (removed_later m.rows i k l);
-      one_fewer = removed_length m.rows i h;
+      one_fewer = length-remove m.rows i h;
       same_mode = refl;
       same_fields = refl;
     }
 
 share_within : (s : Option Share) → ShareWithin (option_map (λ a. a.thousandths) s)
-share_within None x e = none_some e
+share_within None x e = absurd (none-some _ e)
 share_within (Some a) x e = let q : a.thousandths ≡ x = cc in omega (arith, a.within)
 
 row_within : (r : unit.Row) → RowWithin (row_of r)
@@ -65,7 +61,7 @@ row_within r =
     }
 
 each_within : (rs : List unit.Row) (k : ℕ) (r : Row) → slice_get (map row_of rs) k ≡ Some r → RowWithin r
-each_within [] k r e = none_some e
+each_within [] k r e = absurd (none-some _ e)
 each_within (x ∷ rs) zero r e = let q : row_of x ≡ r = cc in let P : Row → Type 0 = RowWithin in subst P q (row_within x)
 each_within (x ∷ rs) (suc k) r e = each_within rs k r e
 

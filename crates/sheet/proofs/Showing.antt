@@ -1,9 +1,7 @@
 -- What is read of a place's rows, and what show and the reader of sums answer of it.
-use Rattle.std.proofs.Common.{◌≡◌, ℕ, ◌<◌, ◌≤◌, List, length, map, IfSome, Some, None, Ok, Err, Option, Result, sym, refl, ap, ◌∙◌, subst, le_antisymm, arith, MatchOption}
-use Rattle.std.proofs.lemmas.List.{nil_from_length}
+use Rattle.std.proofs.Common.{◌≡◌, ℕ, ◌<◌, ◌≤◌, List, length, map, Some, None, Ok, Err, Option, Result, sym, refl, ap, ◌∙◌, subst, le_antisymm, arith, MatchOption}
 use Rattle.std.proofs.lemmas.Bool.{eq-eqb, ne_eqb, le-ltb}
 use Rattle.std.specs.Option.{ok_or}
-use Rattle.std.specs.Result.{result_ok}
 use Rattle.sheet.specs.declared.fault.Fault.{Fault}
 use Rattle.sheet.specs.declared.fault.Refusal.{Refusal}
 use Rattle.sheet.specs.declared.rates.RateSums.{RateSums}
@@ -12,26 +10,18 @@ use Rattle.sheet.specs.declared.row.Row as unit
 use Rattle.sheet.specs.Holds.{row_of}
 use Rattle.sheet.specs.Kept.{SumsKept}
 use Rattle.sheet.specs.Limits.{last_place}
-use Rattle.sheet.specs.Model.{Model, Row}
-use Rattle.sheet.specs.Rates.{total, rows_at, first_blank, failure_rate, no_rates, ReadsSums}
-use Rattle.sheet.specs.Refusals.{answer_of, refusal}
+use Rattle.sheet.specs.Model.{Model}
+use Rattle.sheet.specs.Rates.{total, rows_at, first_blank, failure_rate}
+use Rattle.sheet.specs.Refusals.{answer_of}
 use Rattle.sheet.specs.Rounding.{distance, Rounded}
 use Rattle.sheet.specs.Shown.{Shows, ShowsSums}
 use Rattle.sheet.proofs.Kept.{sums_kept, no_rate, no_rows}
-use Rattle.sheet.proofs.Apart.{none_some}
-
--- rows of a place that have no sums are some
-some_blank : (rs : List Row) → total rs ≡ None → length rs ≡ 0 → ⊥
-some_blank rs h e =
-    let n = nil_from_length rs e in
-    let k : total rs ≡ Some no_rates = rw n in
-    none_some (sym h ∙ k)
+use Rattle.std.proofs.lemmas.Option.{none-some}
 
 -- the sums of a place of a sheet with these rows, and what is shown of them
 module _ (rs : List unit.Row) (m : Model) (stand : m.rows ≡ map row_of rs) (p : ℕ) where
-  pub sums_read : (r : Result RateSums ℕ) → ReadsSums (map row_of rs) p r → IfSome (result_ok r) (λ x. SumsKept m p x)
-  sums_read (Ok x) h = rw stand (sums_kept p rs x h.0)
-  sums_read (Err i) h = tt
+  pub kept : (x : RateSums) → total (rows_at p (map row_of rs)) ≡ Some x → SumsKept m p x
+  kept x e = rw stand (sums_kept p rs x e)
 
   module _ (within : p ≤ last_place) where
     pub shown : (x : RateSums) (o : Option Percentages) → total (rows_at p (map row_of rs)) ≡ Some x → first_blank p (map row_of rs) ≡ None
@@ -44,11 +34,6 @@ module _ (rs : List unit.Row) (m : Model) (stand : m.rows ≡ map row_of rs) (p 
         let w = sums_kept p rs x sum in
         let n : length (rows_at p (map row_of rs)) ≡ 0 → ⊥ = λ k. let z = no_rows p rs k in omega (arith, e.0) in
         rw stand ((rw (le-ltb 7 p (omega arith), ne_eqb (length (rows_at p (map row_of rs))) 0 n, none), (x, sum, e.1)))
-
-    pub shown_blank : (i : ℕ) → total (rows_at p (map row_of rs)) ≡ None → first_blank p (map row_of rs) ≡ Some i
-        → Shows m p (Err (refusal 12 (Some p) (Some i)))
-    shown_blank i sum some =
-        rw (stand, le-ltb 7 p (omega arith), ne_eqb (length (rows_at p (map row_of rs))) 0 (some_blank (rows_at p (map row_of rs)) sum), some)
 
 -- one number of tenths is nearest, and the upper of two
 rounded_one : (n d t u : ℕ) → Rounded n d t → Rounded n d u → t ≡ u
@@ -76,6 +61,6 @@ shown_one m p (Ok a) (Ok b) h k =
     let e : k.1.0 ≡ x = cc (h.1.1, k.1.1) in
     let P : RateSums → Type 0 = λ y. ShowsSums y b in
     ap (λ c. Ok c) (percentages_one x a b h.1.2 (subst P e k.1.2))
-shown_one m p (Ok a) (Err f) h k = none_some (sym h.0 ∙ k)
-shown_one m p (Err e) (Ok b) h k = none_some (sym k.0 ∙ h)
+shown_one m p (Ok a) (Err f) h k = absurd (none-some _ (sym h.0 ∙ k))
+shown_one m p (Err e) (Ok b) h k = absurd (none-some _ (sym k.0 ∙ h))
 shown_one m p (Err e) (Err f) h k = let q : e ≡ f = cc in ap (λ c. Err c) q

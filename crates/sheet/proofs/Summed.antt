@@ -12,7 +12,7 @@ use Rattle.sheet.specs.Kept.{FirstBlank}
 use Rattle.sheet.specs.Model.{Row}
 use Rattle.sheet.specs.Rates.{split, split_by, split_of, add_rates, add_splits, total, rows_at, blank_in, first_blank, Bounded, no_rates}
 use Rattle.sheet.specs.Holds.{row_of}
-use Rattle.sheet.proofs.Apart.{none_some}
+use Rattle.std.proofs.lemmas.Option.{none-some}
 
 add_rates_assoc : (x y z : RateSums) → add_rates (add_rates x y) z ≡ add_rates x (add_rates y z)
 add_rates_assoc x y z =
@@ -104,8 +104,8 @@ share_bounded rate s dc a b c =
 module _ (rate : ℕ) (most : rate ≤ greatest_rate) where
   split_bounded : (s dc : Option Share) (x : RateSums)
       → split_by rate (option_map (λ a. a.thousandths) s) (option_map (λ a. a.thousandths) dc) ≡ Some x → Bounded 1 x
-  split_bounded None dc x e = none_some e
-  split_bounded (Some a) None x e = none_some e
+  split_bounded None dc x e = absurd (none-some _ e)
+  split_bounded (Some a) None x e = absurd (none-some _ e)
   split_bounded (Some a) (Some b) x e =
       let q : split rate a.thousandths b.thousandths ≡ x = cc in
       let P : RateSums → Type 0 = Bounded 1 in
@@ -152,7 +152,7 @@ before p r rs j h b zero w l e f =
 before p r rs j h b (suc k) w l e f = b.none_before k w (omega arith) e f
 
 blank_at : (p n : ℕ) (rs : List Row) (i : ℕ) → blank_in p n rs ≡ Some i → (j : ℕ) × (i ≡ n + j) × FirstBlank rs p j
-blank_at p n [] i e = none_some e
+blank_at p n [] i e = absurd (none-some _ e)
 blank_at p n (r ∷ rs) i e =
     elim (cases_Bool (eqb r.place p && not (is_some (split_of r)))) [
       | inl h ↦

@@ -1,7 +1,7 @@
 -- How a row's failure rate splits, and the sums of a place.
-use Rattle.std.specs.Prelude.{◌≡◌, ℕ, ◌+◌, ◌-◌, ◌*◌, ◌≤◌, cond, not, ◌&&◌, List, [], ◌∷◌, is_some, Some, None, Ok, Err, Option, Result, ◌==◌}
+use Rattle.std.specs.Prelude.{ℕ, ◌+◌, ◌-◌, ◌*◌, ◌≤◌, cond, not, ◌&&◌, List, [], ◌∷◌, is_some, Some, None, Option, ◌==◌}
 use Rattle.sheet.specs.declared.rates.RateSums.{RateSums}
-use Rattle.sheet.specs.Limits.{greatest_rate, most_rows}
+use Rattle.sheet.specs.Limits.{greatest_rate}
 use Rattle.sheet.specs.Model.{Model, Row}
 
 -- a rate in thousandths of a FIT, with its safe share and its diagnostic coverage in thousandths, in units of 1e-9 FIT
@@ -77,8 +77,3 @@ pub record Bounded (n : ℕ) (x : RateSums) : Type 0 where
 -- the four rate sums of a place
 abbrev pub sums : Model → ℕ → Option RateSums
 sums m p = total (rows_at p m.rows)
-
--- what is read of the rows of place p: their sums, which are small, or the number of the first with a blank share
-abbrev pub ReadsSums : List Row → ℕ → Result RateSums ℕ → Type 0
-ReadsSums rs p (Ok x) = (total (rows_at p rs) ≡ Some x) × (first_blank p rs ≡ None) × Bounded most_rows x
-ReadsSums rs p (Err i) = (total (rows_at p rs) ≡ None) × (first_blank p rs ≡ Some i)

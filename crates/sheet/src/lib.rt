@@ -9,6 +9,7 @@ mod field;
 mod limits;
 mod mode;
 mod place;
+mod place_sums;
 mod rates;
 mod readers;
 mod record;

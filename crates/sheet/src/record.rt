@@ -18,6 +18,13 @@ pub struct PlaceRecord {
     pub(crate) voting: Option<VotingKind>,
 }
 
+// The same number, if there is one.
+fn widened(value: Option<u16>) -> Option<u32>
+    ensures { result ≡ value }
+{
+    value.map(u32::from)
+}
+
 impl PlaceRecord {
     pub(crate) const BLANK: PlaceRecord = PlaceRecord {
         proof_test_interval: None,
@@ -58,11 +65,11 @@ impl PlaceRecord {
     {
         [
             self.proof_test_interval,
-            self.mttr.map(u32::from),
-            self.mrt.map(u32::from),
-            self.beta.map(u32::from),
-            self.beta_d.map(u32::from),
-            self.k.map(u32::from),
+            widened(self.mttr),
+            widened(self.mrt),
+            widened(self.beta),
+            widened(self.beta_d),
+            widened(self.k),
             self.component_type.map(u32::from),
             self.voting.map(u32::from),
         ]

@@ -14,6 +14,7 @@ ghost use Rattle.sheet.specs.Sound.{Sound};
 
 use crate::fault::Fault;
 use crate::place::Place;
+use crate::place_sums::PlaceSums;
 use crate::rates::RateSums;
 use crate::rows::Rows;
 use crate::sheets::Sheet;
@@ -45,16 +46,16 @@ fn tenths(part: u64, whole: u64) -> Option<u32>
     Some(t as u32)
 }
 
-impl RateSums {
+impl PlaceSums {
     // The percentages of these sums, or none where nothing is summed.
     fn percentages(self) -> Option<Percentages>
-        requires { Bounded most_rows self }
-        ensures { MatchOption result (failure_rate self ≡ 0) (λ a. (0 < failure_rate self) × ShowsSums self a) }
+        ensures { MatchOption result (failure_rate self.sums ≡ 0) (λ a. (0 < failure_rate self.sums) × ShowsSums self.sums a) }
     {
-        let dangerous = self.dangerous_detected + self.dangerous_undetected;
+        let sums = self.sums;
+        let dangerous = sums.dangerous_detected + sums.dangerous_undetected;
         Some(Percentages {
-            sff: tenths(self.safe + self.dangerous_detected, self.safe + dangerous)?,
-            diagnostic_coverage: tenths(self.dangerous_detected, dangerous),
+            sff: tenths(sums.safe + sums.dangerous_detected, sums.safe + dangerous)?,
+            diagnostic_coverage: tenths(sums.dangerous_detected, dangerous),
         })
     }
 }
@@ -80,7 +81,7 @@ impl Sheet {
         ensures bounded { IfSome result (λ x. Bounded most_rows x) }
         ensures kept { IfSome result (λ x. SumsKept self.now place.number x) }
     {
-        self.rows.sums(place).ok()
+        Some(self.rows.sums(place).ok()?.sums)
     }
 
     // The safe failure fraction and the diagnostic coverage of a place.

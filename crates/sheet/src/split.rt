@@ -1,10 +1,12 @@
 // How a row's failure rate splits, and the sums of the rows of a place.
 ghost use Rattle.std.specs.Prelude.{◌≡◌, map};
 ghost use Rattle.sheet.specs.Limits.{most_rows};
-ghost use Rattle.sheet.specs.Rates.{split_of, add_rates, Bounded, ReadsSums};
+ghost use Rattle.sheet.specs.Rates.{split_of, add_rates, Bounded};
+ghost use Rattle.sheet.specs.Parts.{ReadsSums};
 ghost use Rattle.sheet.specs.Holds.{row_of};
 
 use crate::place::Place;
+use crate::place_sums::PlaceSums;
 use crate::rates::RateSums;
 use crate::row::Row;
 use crate::rows::Rows;
@@ -51,7 +53,7 @@ impl RateSums {
 
 impl Rows {
     // The four sums of a place, or the number of its first row with a blank share.
-    pub(crate) fn sums(&self, place: Place) -> Result<RateSums, u32>
+    pub(crate) fn sums(&self, place: Place) -> Result<PlaceSums, u32>
         ensures { ReadsSums (map row_of self.now) place.number result }
     {
         let mut sums = RateSums::NONE;
@@ -60,6 +62,6 @@ impl Rows {
                 sums = sums.plus(row.split().ok_or(i as u32)?);
             }
         }
-        Ok(sums)
+        Ok(PlaceSums { sums })
     }
 }

@@ -1,8 +1,9 @@
-use Rattle.std.proofs.Common.{◌+◌, map, drop, sym, ◌∙◌, subst}
+use Rattle.std.specs.Result.{result_ok}
+use Rattle.std.proofs.Common.{ap, ◌+◌, map, drop, sym, ◌∙◌, subst}
 use Rattle.std.proofs.lemmas.Result.{err_from_is_err_and}
 use Rattle.sheet.specs.declared.rates.RateSums.{RateSums}
 use Rattle.sheet.specs.Holds.{row_of}
-use Rattle.sheet.proofs.Optional.{from_ok, from_err}
+use Rattle.sheet.proofs.Results.{from_err}
 use Rattle.sheet.proofs.Summed.{Summing, sum_start, sum_next, sum_pass, sum_add, sum_stop, sum_last, sum_end, few_so_far, row_bounded}
 use Rattle.sheet.proofs.rows.Rows.sums.Goals as goal
 use Rattle.sheet.proofs.rows.Rows.sums.Goals.{then-row-place+in_ok-ok_or, else-row-place}
@@ -22,7 +23,7 @@ loop-i-preserved c =
     elim c.if-row-place.branch [
       | then-row-place+in_ok-ok_or w ↦
           let x = w.in_ok-ok_or.field-0 in
-          let e = sym w.split.ensures ∙ from_ok w.split.result i x (sym w.ok_or.ensures.value ∙ w.in_ok-ok_or.was) in
+          let e = sym w.split.ensures ∙ (w.ok_or.ensures.ok_part ∙ ap result_ok w.in_ok-ok_or.was) in
           subst P (sym w.plus-sums.ensures ∙ sym w.sums-is)
           (sum_add p (map row_of rs) i (row_of r) rest c.loop-i.sums h w.if-row-place.true x e (row_bounded r x e))
       | else-row-place w ↦
@@ -48,7 +49,7 @@ plus-sums-requires c =
     let r = c.row-item.result in (
       few_so_far c.loop-i.i c.as_slice-row-items.result.now c.loop-i.sums c.loop-i.auto.i-end
           (rw c.as_slice-row-items.ensures.value c.as_slice-row-items.ensures.few) c.loop-i.invariant.bounded,
-      row_bounded r x (sym c.split.ensures ∙ from_ok c.split.result c.loop-i.i x (sym c.ok_or.ensures.value ∙ c.in_ok-ok_or.was)),
+      row_bounded r x (sym c.split.ensures ∙ (c.ok_or.ensures.ok_part ∙ ap result_ok c.in_ok-ok_or.was)),
     )
 
 pub returns : goal.returns
@@ -57,9 +58,12 @@ returns c =
     let e =
     sum_end c.args.place.number (map row_of rs) c.loop-i.i c.loop-i.sums
     (sum_last c.args.place.number rs c.loop-i.i c.loop-i.sums c.loop-i.invariant c.loop-i-test.false) in
-    rw (← c.as_slice-row-items.ensures.value) (
-      e.0,
-      e.1,
-      few_so_far c.loop-i.i rs c.loop-i.sums c.loop-i.auto.i-end (rw c.as_slice-row-items.ensures.value c.as_slice-row-items.ensures.few)
-          c.loop-i.invariant.bounded,
-    )
+    rw (← c.as_slice-row-items.ensures.value) e
+
+pub invariant_of-result : goal.invariant_of-result
+invariant_of-result c =
+    record {
+      bounded =
+          few_so_far c.loop-i.i c.as_slice-row-items.result.now c.loop-i.sums c.loop-i.auto.i-end
+          (rw c.as_slice-row-items.ensures.value c.as_slice-row-items.ensures.few) c.loop-i.invariant.bounded;
+    }

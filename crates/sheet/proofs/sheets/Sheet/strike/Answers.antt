@@ -1,3 +1,4 @@
+use Rattle.std.specs.Result.{result_ok}
 use Rattle.std.proofs.Common.{◌≡◌, ◌<◌, ◌≤◌, false, leb, map, length, Ok, sym, ap, ◌∙◌, subst, arith}
 use Rattle.std.proofs.lemmas.Bool.{lt-leb}
 use Rattle.std.proofs.lemmas.List.{length-map}
@@ -7,7 +8,6 @@ use Rattle.sheet.specs.Holds.{row_of, model_of}
 use Rattle.sheet.specs.Laws.{OneRowOut}
 use Rattle.sheet.specs.Model.{Model, without_row}
 use Rattle.sheet.proofs.Listed.{with_rows, rows_removed, one_row_out}
-use Rattle.sheet.proofs.Optional.{from_ok}
 use Rattle.sheet.proofs.sheets.Sheet.strike.Goals as goal
 
 -- the row stood, and was removed
@@ -15,7 +15,7 @@ removed : (c : goal.In_ok-ok_or) → (c.args.row < length c.self.inside.rows) ×
 removed c =
     MatchOption-at_some ((length c.self.inside.rows ≤ c.args.row) × (c.remove.new.self ≡ c.self.inside.rows))
     (λ _. (c.args.row < length c.self.inside.rows) × (c.remove.new.self ≡ remove c.self.inside.rows c.args.row)) c.in_ok-ok_or.field-0
-    (from_ok c.remove.result _ c.in_ok-ok_or.field-0 (sym c.ok_or.ensures.value ∙ c.in_ok-ok_or.was)) c.remove.ensures
+    ((c.ok_or.ensures.ok_part ∙ ap result_ok c.in_ok-ok_or.was)) c.remove.ensures
 
 after : (c : goal.In_ok-ok_or) → with_rows (model_of c.self.inside) (map row_of c.remove.new.self) ≡ without_row (model_of c.self.inside) c.args.row
 after c = ap (with_rows (model_of c.self.inside)) (ap (map row_of) (removed c).1 ∙ rows_removed c.self.inside.rows c.args.row)
