@@ -13,7 +13,7 @@ use crate::values::FromWord;
 use crate::words::{before_comment, first_word};
 
 // The value that the first word writes, and the text after that word.
-fn part<T: FromWord>(text: &[u8]) -> Result<(T, &[u8]), NotCall>
+fn part<T: FromWord>(text: &str) -> Result<(T, &str), NotCall>
     ensures { followed result ≡ first_as T.value_of (words text.now) }
 {
     let (word, rest) = first_word(text).ok_or(NotCall::WordMissing)?;
@@ -21,7 +21,7 @@ fn part<T: FromWord>(text: &[u8]) -> Result<(T, &[u8]), NotCall>
 }
 
 // The call, where no word is left.
-fn end(text: &[u8], call: Call) -> Result<Call, NotCall>
+fn end(text: &str, call: Call) -> Result<Call, NotCall>
     ensures { result ≡ end_of call (words text.now) }
 {
     if first_word(text).is_some() {
@@ -30,7 +30,7 @@ fn end(text: &[u8], call: Call) -> Result<Call, NotCall>
     Ok(call)
 }
 
-fn enter(text: &[u8]) -> Result<Call, NotCall>
+fn enter(text: &str) -> Result<Call, NotCall>
     ensures { result ≡ enter_of (words text.now) }
 {
     let (place, text) = part(text)?;
@@ -48,14 +48,14 @@ fn enter(text: &[u8]) -> Result<Call, NotCall>
     )
 }
 
-fn strike(text: &[u8]) -> Result<Call, NotCall>
+fn strike(text: &str) -> Result<Call, NotCall>
     ensures { result ≡ strike_of (words text.now) }
 {
     let (row, text) = part(text)?;
     end(text, Call::Strike { row })
 }
 
-fn set(text: &[u8]) -> Result<Call, NotCall>
+fn set(text: &str) -> Result<Call, NotCall>
     ensures { result ≡ set_of (words text.now) }
 {
     let (place, text) = part(text)?;
@@ -71,7 +71,7 @@ fn set(text: &[u8]) -> Result<Call, NotCall>
     )
 }
 
-fn blank(text: &[u8]) -> Result<Call, NotCall>
+fn blank(text: &str) -> Result<Call, NotCall>
     ensures { result ≡ blank_of (words text.now) }
 {
     let (place, text) = part(text)?;
@@ -79,14 +79,14 @@ fn blank(text: &[u8]) -> Result<Call, NotCall>
     end(text, Call::Blank { place, field })
 }
 
-fn mode(text: &[u8]) -> Result<Call, NotCall>
+fn mode(text: &str) -> Result<Call, NotCall>
     ensures { result ≡ mode_of (words text.now) }
 {
     let (letter, text) = part(text)?;
     end(text, Call::Mode { letter })
 }
 
-fn show(text: &[u8]) -> Result<Call, NotCall>
+fn show(text: &str) -> Result<Call, NotCall>
     ensures { result ≡ show_of (words text.now) }
 {
     let (place, text) = part(text)?;
@@ -94,23 +94,23 @@ fn show(text: &[u8]) -> Result<Call, NotCall>
 }
 
 // The call of this name, from the text after the name.
-fn named(name: &[u8], text: &[u8]) -> Result<Call, NotCall>
+fn named(name: &str, text: &str) -> Result<Call, NotCall>
     ensures { result ≡ named_of name.now (words text.now) }
 {
     match name {
-        b"enter" => enter(text),
-        b"strike" => strike(text),
-        b"set" => set(text),
-        b"blank" => blank(text),
-        b"mode" => mode(text),
-        b"clear" => end(text, Call::Clear),
-        b"show" => show(text),
+        "enter" => enter(text),
+        "strike" => strike(text),
+        "set" => set(text),
+        "blank" => blank(text),
+        "mode" => mode(text),
+        "clear" => end(text, Call::Clear),
+        "show" => show(text),
         _ => Err(NotCall::UnknownName),
     }
 }
 
 // The call of a text without a comment, or none where it has no words.
-fn call(text: &[u8]) -> Result<Option<Call>, NotCall>
+fn call(text: &str) -> Result<Option<Call>, NotCall>
     ensures { result ≡ call_of (words text.now) }
 {
     first_word(text)
@@ -129,6 +129,6 @@ pub fn read(line: &[u8]) -> Result<Option<Call>, NotCall>
     ensures printable { (c : Call) → result ≡ Ok (Some c) → Printable c }
     ensures back { (c : Call) → Printable c → line.now ≡ call_text c → result ≡ Ok (Some c) }
 {
-    std::str::from_utf8(line).map_err(|_| NotCall::NotText)?;
+    let line = std::str::from_utf8(line).map_err(|_| NotCall::NotText)?;
     call(before_comment(line))
 }

@@ -10,27 +10,26 @@ pub(crate) trait FromWord: Sized {
     ghost value_of: { List ℕ → Result Self NotCall };
 
     // Reads the value from the word.
-    fn from_word(word: &[u8]) -> Result<Self, NotCall>
+    fn from_word(word: &str) -> Result<Self, NotCall>
         ensures { result ≡ value_of word.now };
 }
 
 // Whether a word is one digit or more, and nothing else.
-fn is_numeral(word: &[u8]) -> bool
+fn is_numeral(word: &str) -> bool
     ensures { result ≡ is_numeral word.now }
 {
-    !word.is_empty() && word.iter().all(u8::is_ascii_digit)
+    !word.is_empty() && word.as_bytes().iter().all(u8::is_ascii_digit)
 }
 
-// A number is written by digits.
+// A number is written by digits, and by no sign.
 impl FromWord for u32 {
     ghost value_of = { number_of };
 
-    fn from_word(word: &[u8]) -> Result<u32, NotCall> {
+    fn from_word(word: &str) -> Result<u32, NotCall> {
         if !is_numeral(word) {
             return Err(NotCall::NotNumber);
         }
-        let digits = std::str::from_utf8(word).map_err(|_| NotCall::NotNumber)?;
-        digits.parse().map_err(|_| NotCall::NumberTooLarge)
+        word.parse().map_err(|_| NotCall::NumberTooLarge)
     }
 }
 
@@ -38,9 +37,9 @@ impl FromWord for u32 {
 impl FromWord for Option<u32> {
     ghost value_of = { share_of };
 
-    fn from_word(word: &[u8]) -> Result<Option<u32>, NotCall> {
+    fn from_word(word: &str) -> Result<Option<u32>, NotCall> {
         match word {
-            b"-" => Ok(None),
+            "-" => Ok(None),
             _ => u32::from_word(word).map(Some),
         }
     }
@@ -50,8 +49,7 @@ impl FromWord for Option<u32> {
 impl FromWord for char {
     ghost value_of = { letter_of };
 
-    fn from_word(word: &[u8]) -> Result<char, NotCall> {
-        let text = std::str::from_utf8(word).map_err(|_| NotCall::NotLetter)?;
-        text.parse().map_err(|_| NotCall::NotLetter)
+    fn from_word(word: &str) -> Result<char, NotCall> {
+        word.parse().map_err(|_| NotCall::NotLetter)
     }
 }

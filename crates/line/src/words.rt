@@ -2,26 +2,26 @@
 ghost use Rattle.std.specs.Prelude.{◌≡◌, [], ◌∷◌, MatchOption};
 ghost use Rattle.line.specs.Words.{blank, uncommented, words};
 
-fn is_blank(b: &u8) -> bool
-    ensures { result ≡ blank b.now }
+// White space as `char` knows it takes in more.
+fn is_blank(c: char) -> bool
+    ensures { result ≡ blank c }
 {
-    matches!(*b, b' ' | b'\t' | b'\r' | b'\n')
+    matches!(c, ' ' | '\t' | '\r' | '\n')
 }
 
 // The line up to its comment.
-pub(crate) fn before_comment(line: &[u8]) -> &[u8]
+pub(crate) fn before_comment(line: &str) -> &str
     ensures { result.now ≡ uncommented line.now }
 {
-    let end = line.iter().position(|b| *b == b'#').unwrap_or(line.len());
-    &line[..end]
+    line.split_once('#').map_or(line, |(text, _)| text)
 }
 
 // The first word of a text and what follows it, or nothing where it has no word.
-pub(crate) fn first_word(text: &[u8]) -> Option<(&[u8], &[u8])>
+pub(crate) fn first_word(text: &str) -> Option<(&str, &str)>
     ensures { MatchOption result (words text.now ≡ []) (λ p. words text.now ≡ p.0.now ∷ words p.1.now) }
 {
-    let start = text.iter().position(|b| !is_blank(b))?;
+    let start = text.find(|c| !is_blank(c))?;
     let text = &text[start..];
-    let end = text.iter().position(is_blank).unwrap_or(text.len());
+    let end = text.find(is_blank).unwrap_or(text.len());
     Some(text.split_at(end))
 }

@@ -1,11 +1,13 @@
 use Rattle.std.proofs.Common.{◌≡◌, ℕ, List, sym, ap, ◌∙◌, rules}
+use Rattle.line.specs.Calls.{call_of}
+use Rattle.line.specs.Words.{words}
 use Rattle.line.specs.Reading.{read_of}
 use Rattle.line.proofs.Printed.{read_back}
 use Rattle.line.proofs.Spelled.{text_decides, read_not_text, read_text, read_accepted, read_printable, read_spelled}
 use Rattle.line.proofs.reading.read.Goals as goal
 
-pub returns-in_err-map_err : goal.returns-in_err-map_err
-returns-in_err-map_err c =
+pub returns-in_err-line : goal.returns-in_err-line
+returns-in_err-line c =
     let line : List ℕ = c.args.line.now in
     let e : c.from_residual.result ≡ read_of line = search (rules, read_not_text) in
     record {
@@ -20,7 +22,8 @@ returns-in_err-map_err c =
 pub returns : goal.returns
 returns c =
     let line : List ℕ = c.args.line.now in
-    let e : c.call.result ≡ read_of line = search (rules, read_text) in
+    let t : c.in_ok-line.line.now ≡ line = search rules in
+    let e = c.call.ensures ∙ (ap (λ (x : List ℕ). call_of (words x)) (rw t at c.before_comment.ensures) ∙ read_text line (search rules)) in
     record {
       value = e;
       text = text_decides line;
