@@ -1,6 +1,6 @@
 // A line that has come in whole is read, the call that it makes is handed to the sheet, and the result is the answer.
 ghost use Rattle.std.specs.Prelude.{◌≡◌, [], Some};
-ghost use Rattle.line.specs.Buffer.{held, read_held};
+ghost use Rattle.line.specs.Buffer.{read_held};
 ghost use Rattle.sheet.specs.Holds.{model};
 ghost use Rattle.sheet.specs.Refusals.{answer_of};
 ghost use Rattle.console.specs.Replies.{Replies, Responds, TellsDone, TellsRow};
@@ -59,8 +59,8 @@ pub(crate) fn carry_out(sheet: &mut Sheet, call: Call) -> Answer
 
 // Answers the line that has come in, or nothing where it has no words, and empties it for the next.
 pub fn respond(sheet: &mut Sheet, line: &mut LineBuffer) -> Option<Answer>
-    ensures answer { Responds (read_held (held line.old)) (model sheet.old) result (model sheet.new) }
-    ensures emptied { held line.new ≡ Some [] }
+    ensures answer { Responds (read_held line.old) (model sheet.old) result (model sheet.new) }
+    ensures emptied { line.new ≡ Some [] }
 {
     match line.finish() {
         Ok(Some(call)) => Some(carry_out(sheet, call)),

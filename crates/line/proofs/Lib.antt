@@ -1,3 +1,4 @@
+pub mod Found
 pub mod Splits
 pub mod Numerals
 pub mod Characters

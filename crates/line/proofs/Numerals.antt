@@ -1,20 +1,20 @@
 -- What a word of digits writes, and what `parse` reads of it.
-use Rattle.std.proofs.Common.{◌≡◌, ℕ, ◌+◌, ◌^◌, ◌<◌, ◌≤◌, Bool, true, false, cond, eqb, ltb, List, [], ◌∷◌, length, Some, None, Ok, Err, codes, IsUtf8, decimal, Option, Result, sym, refl, ⊎_elim, arith}
+use Rattle.std.proofs.Common.{◌≡◌, ℕ, ◌^◌, ◌<◌, Bool, true, false, cond, ◌&&◌, eqb, ltb, List, [], ◌∷◌, length, Some, None, Ok, Err, codes, IsUtf8, decimal, Option, Result, MatchResult, sym, refl, ⊎_elim, arith}
 use Rattle.std.proofs.lemmas.Slice.Eq.{bytes_eq-Decides}
 use Rattle.std.proofs.lemmas.Str.Parse.{IsNumeralModel, numerals_by_value, tells_all_ascii_digits, parse_digits}
 use Rattle.std.proofs.lemmas.Fmt.{IsAscii-from_digits, digits_decimal, digits_value-decimal, decimal_nonempty}
-use Rattle.std.proofs.lemmas.Bool.{and_from, and_left, and_parts, and_right, cases_lt, lt-ltb, le-ltb, ltb-true}
+use Rattle.std.proofs.lemmas.Bool.{and_from, and_parts, cases_lt, lt-ltb, le-ltb, ltb-true}
+use Rattle.std.proofs.Math.Bool.{and-true}
+use Rattle.std.proofs.lemmas.List.Recursion.{same_from_clauses}
 use Rattle.std.proofs.lemmas.Str.{IsUtf8-from_ascii}
+use Rattle.std.specs.Char.{is_ascii_digit}
+use Rattle.std.specs.List.{list_all}
 use Rattle.std.proofs.lemmas.Bool.Decides.{nat_tests}
 use Rattle.std.specs.Result.{OkIff}
 use Rattle.std.specs.Str.Parse.{digits_value, ParsesUnsigned}
-use Rattle.std.specs.Char.{is_ascii_digit}
-use Rattle.std.specs.List.{prefix_len}
 use Rattle.std.specs.Str.{all_ascii_digits, bytes_eq}
 use Rattle.line.specs.declared.calls.NotCall.{NotCall}
 use Rattle.line.specs.declared.calls.NotCall.TheVariants.{NotNumber, NumberTooLarge}
-use Rattle.line.specs.declared.words.Class.TheVariants.{Digit}
-use Rattle.line.specs.Helpers.{in_class}
 use Rattle.line.specs.Limits.{number_limit}
 use Rattle.line.specs.Spelling.{Numeral, ShareWord}
 use Rattle.line.specs.Texts.{Writable, share_text}
@@ -23,57 +23,38 @@ use Rattle.line.specs.Values.{given, is_numeral, number_of, share_of}
 own : IsNumeralModel (λ ds. all_ascii_digits ds ≡ true) (digits_value 10)
 own = numerals_by_value _ tells_all_ascii_digits
 
--- a word is all digits just where its leading digits are all of it
-digits_by : (b : Bool) (c : ℕ) (cs : List ℕ) → is_ascii_digit c ≡ b → (length cs ≤ prefix_len (in_class Digit) cs → all_ascii_digits cs ≡ true) → length (c ∷ cs) ≤ prefix_len (in_class Digit) (c ∷ cs) → all_ascii_digits (c ∷ cs) ≡ true
-digits_by true c cs e h k = rw e (h (let l : length (c ∷ cs) ≤ 1 + prefix_len (in_class Digit) cs = rw e at k in omega arith))
-digits_by false c cs e h k = absurd (let l : length (c ∷ cs) ≤ 0 = rw e at k in omega arith)
-
-pub digits_all : (w : List ℕ) → length w ≤ prefix_len (in_class Digit) w → all_ascii_digits w ≡ true
-digits_all [] h = refl
-digits_all (c ∷ cs) h = digits_by (is_ascii_digit c) c cs refl (digits_all cs) h
-
-fewer_by : (b : Bool) (c : ℕ) (cs : List ℕ) → is_ascii_digit c ≡ b → (prefix_len (in_class Digit) cs < length cs → all_ascii_digits cs ≡ false) → prefix_len (in_class Digit) (c ∷ cs) < length (c ∷ cs) → all_ascii_digits (c ∷ cs) ≡ false
-fewer_by true c cs e h k = rw e (h (let l : 1 + prefix_len (in_class Digit) cs < length (c ∷ cs) = rw e at k in omega arith))
-fewer_by false c cs e h k = rw e refl
-
-pub digits_fewer : (w : List ℕ) → prefix_len (in_class Digit) w < length w → all_ascii_digits w ≡ false
-digits_fewer [] h = absurd (omega arith)
-digits_fewer (c ∷ cs) h = fewer_by (is_ascii_digit c) c cs refl (digits_fewer cs) h
+-- a word of digits alone is a numeral, unless it is empty
+pub digits_all : (w : List ℕ) → 0 < length w → list_all is_ascii_digit w ≡ is_numeral w
+digits_all w l =
+    let e : list_all is_ascii_digit w ≡ all_ascii_digits w = same_from_clauses (list_all is_ascii_digit) all_ascii_digits (λ c b. is_ascii_digit c && b) refl (λ _ _. refl) (λ _ _. refl) w in
+    rw (e, lt-ltb 0 (length w) l) (sym (and-true (all_ascii_digits w)))
 
 -- a word that is no numeral is no number
-not_numeral : (w : List ℕ) → is_numeral w ≡ false → Err NotNumber ≡ number_of w
+pub not_numeral : (w : List ℕ) → is_numeral w ≡ false → Err NotNumber ≡ number_of w
 unfolding number_of
 not_numeral w e = rw e refl
 
-pub no_digits : (w : List ℕ) → length w ≡ 0 → Err NotNumber ≡ number_of w
-no_digits w e = not_numeral w (and_right (all_ascii_digits w) _ (le-ltb 0 (length w) (omega arith)))
-
-pub other_byte : (w : List ℕ) → prefix_len (in_class Digit) w < length w → Err NotNumber ≡ number_of w
-other_byte w h = not_numeral w (and_left (all_ascii_digits w) _ (digits_fewer w h))
-
 -- digits are text
-pub digits_utf8 : (w : List ℕ) → all_ascii_digits w ≡ true → IsUtf8 w
-digits_utf8 w e = IsUtf8-from_ascii w (IsAscii-from_digits w (own.to w e))
+pub numeral_text : (w : List ℕ) → is_numeral w ≡ true → IsUtf8 w
+numeral_text w e = IsUtf8-from_ascii w (IsAscii-from_digits w (own.to w (and_parts (all_ascii_digits w) _ e).0))
 
--- what `parse` answers at a numeral: its number, unless that is too large
-abbrev pub parsed : {E : Type 0} → Result ℕ E → Result ℕ NotCall
-parsed (Ok n) = Ok n
-parsed (Err e) = Err NumberTooLarge
-
-converted : {E : Type 0} (w : List ℕ) (r : Result ℕ E) → is_numeral w ≡ true → 0 < length w → OkIff r ((0 < length w) × (digits_value 10 w < 2 ^ 32)) (digits_value 10 w) → parsed r ≡ number_of w
+-- what `parse` answers at a numeral is its number, unless that is too large
+converted : {E : Type 0} (w : List ℕ) (r : Result ℕ E) (q : Result ℕ NotCall) → is_numeral w ≡ true → 0 < length w → OkIff r ((0 < length w) × (digits_value 10 w < 2 ^ 32)) (digits_value 10 w) → MatchResult r (λ n. q ≡ Ok n) (λ _. q ≡ Err NumberTooLarge) → q ≡ number_of w
 unfolding number_of
-converted w (Ok n) e l h = rw (e, lt-ltb (digits_value 10 w) number_limit h.0.1, h.1) refl
-converted w (Err x) e l h = rw (e, le-ltb (digits_value 10 w) number_limit (⊎_elim (λ k. absurd (h (l, k))) (λ k. k) (cases_lt (digits_value 10 w) number_limit))) refl
+converted w (Ok n) q e l h k = rw (k, e, lt-ltb (digits_value 10 w) number_limit h.0.1, h.1) refl
+converted w (Err x) q e l h k = rw (k, e, le-ltb (digits_value 10 w) number_limit (⊎_elim (λ k. absurd (h (l, k))) (λ k. k) (cases_lt (digits_value 10 w) number_limit))) refl
 
-pub parsed_numeral : {E : Type 0} (w : List ℕ) (r : Result ℕ E) → all_ascii_digits w ≡ true → 0 < length w → ParsesUnsigned 32 10 w r → parsed r ≡ number_of w
-parsed_numeral w r d l h = converted w r (and_from (all_ascii_digits w) _ d (lt-ltb 0 (length w) l)) l (parse_digits own 32 w r h d)
+pub number_parsed : {E : Type 0} (w : List ℕ) (r : Result ℕ E) (q : Result ℕ NotCall) → is_numeral w ≡ true → ParsesUnsigned 32 10 w r → MatchResult r (λ n. q ≡ Ok n) (λ _. q ≡ Err NumberTooLarge) → q ≡ number_of w
+number_parsed w r q e h k =
+    let p = and_parts (all_ascii_digits w) _ e in
+    converted w r q e (ltb-true 0 (length w) p.1) (parse_digits own 32 w r h p.0) k
 
 -- a numeral is read as its number, and nothing else is read as a number
 pub numeral_number : (w : List ℕ) (n : ℕ) → Numeral w n → number_of w ≡ Ok n
 numeral_number w n h =
     let t : is_numeral w ≡ true = and_from (all_ascii_digits w) _ h.digits (lt-ltb 0 (length w) h.some) in
     let l : digits_value 10 w < number_limit = rw h.writes h.below in
-    sym (converted {E = NotCall} w (Ok n) t h.some ((h.some, l), sym h.writes))
+    sym (converted {E = NotCall} w (Ok n) (Ok n) t h.some ((h.some, l), sym h.writes) refl)
 
 numeral_by : (a b : Bool) (w : List ℕ) (n : ℕ) → is_numeral w ≡ a → ltb (digits_value 10 w) number_limit ≡ b → cond a (cond b (Ok (digits_value 10 w)) (Err NumberTooLarge)) (Err NotNumber) ≡ Ok n → Numeral w n
 numeral_by true true w n e l h =

@@ -1,10 +1,10 @@
 -- A call that is printed on a line is read again.
 use Rattle.std.proofs.Common.{◌≡◌, ℕ, ◌<◌, Bool, true, ◌&&◌, ltb, List, [], ◌∷◌, ◌++◌, length, get_or, Some, None, Ok, codes, IsUtf8, decimal, Option, sym, refl, ap, ◌∙◌, append-nil, one-add, arith}
-use lib.Utf8.{encode}
+use Rattle.std.specs.Char.{encode_utf8}
 use Rattle.std.proofs.ByRecursion.{IsAscii-from_all, All-from_get_or, All-weaker}
 use Rattle.std.proofs.lemmas.Str.Parse.{tells_all_ascii_digits}
 use Rattle.std.proofs.lemmas.Bool.{and_from, and_parts, lt-ltb, ltb-true}
-use Rattle.std.proofs.lemmas.Str.{inside_one, length-encode, IsUtf8-append, IsUtf8-encode, IsUtf8-from_ascii, len_utf8_bounds}
+use Rattle.std.proofs.lemmas.Str.{inside_one, length-encode, IsUtf8-append, IsUtf8-encode, IsUtf8-from_ascii, is_utf8-from_IsUtf8, len_utf8_bounds}
 use Rattle.std.proofs.lemmas.Bool.Decides.{nat_tests}
 use Rattle.std.specs.Int.{IsInRange}
 use Rattle.std.specs.List.{AllByRecursion as All}
@@ -17,7 +17,6 @@ use Rattle.line.specs.Reading.{read_of}
 use Rattle.line.specs.Spelling.{Spells}
 use Rattle.line.specs.Texts.{share_text, call_words, spaced, call_text, Writable, Letter, Printable}
 use Rattle.line.proofs.Splits.{Plain}
-use Rattle.line.proofs.Characters.{text_decides}
 use Rattle.line.proofs.Numerals.{decimal_numeral, text_share}
 use Rattle.line.proofs.Spelled.{spells_call}
 
@@ -57,7 +56,7 @@ uncommented_spaced (w ∷ v ∷ ws) h = uncommented_more w (spaced (v ∷ ws)) h
 
 -- and are text
 text_space : IsUtf8 (space ∷ [])
-unfolding encode
+unfolding encode_utf8
 text_space = (space ∷ [], (refl, refl))
 
 text_spaced : (ws : List (List ℕ)) → All IsWord ws → IsUtf8 (spaced ws)
@@ -102,10 +101,10 @@ share_word (Some n) h = decimal_word n h
 byte_plain : (b c : ℕ) → Letter c → (b < 128 → c ≡ b) → Plain b
 byte_plain b c h e = (grind (arith, nat_tests), grind (arith, nat_tests))
 
-letter_word : (c : ℕ) → Letter c → IsWord (encode c)
+letter_word : (c : ℕ) → Letter c → IsWord (encode_utf8 c)
 letter_word c h = record {
   some = rw length-encode (omega (arith, len_utf8_bounds c));
-  plain = All-from_get_or Plain (encode c) 0 (λ k l. byte_plain (get_or (encode c) k 0) c h (λ s. inside_one c [] (encode c) k (sym (append-nil (encode c))) l s));
+  plain = All-from_get_or Plain (encode_utf8 c) 0 (λ k l. byte_plain (get_or (encode_utf8 c) k 0) c h (λ s. inside_one c [] (encode_utf8 c) k (sym (append-nil (encode_utf8 c))) l s));
   text = IsUtf8-encode c h.0;
 }
 
@@ -124,11 +123,11 @@ call_spelled (Enter place rate safe coverage) h = (decimal place, decimal rate, 
 call_spelled (Strike row) h = (decimal row, refl, decimal_numeral row h)
 call_spelled (Set place field value) h = (decimal place, decimal field, decimal value, refl, decimal_numeral place h.0, decimal_numeral field h.1, decimal_numeral value h.2)
 call_spelled (Blank place field) h = (decimal place, decimal field, refl, decimal_numeral place h.0, decimal_numeral field h.1)
-call_spelled (Mode letter) h = (encode letter, refl, (h.0, refl))
+call_spelled (Mode letter) h = (encode_utf8 letter, refl, (h.0, refl))
 call_spelled Clear h = refl
 call_spelled (Show place) h = (decimal place, refl, decimal_numeral place h)
 
 pub read_back : (c : Call) → Printable c → read_of (call_text c) ≡ Ok (Some c)
 read_back c h =
     let k = call_word c h in
-    rw ((text_decides (call_text c)).1 (text_spaced (call_words c) k), uncommented_spaced (call_words c) k, words_spaced (call_words c) k) (spells_call (call_words c) c (call_spelled c h))
+    rw (is_utf8-from_IsUtf8 (call_text c) (text_spaced (call_words c) k), uncommented_spaced (call_words c) k, words_spaced (call_words c) k) (spells_call (call_words c) c (call_spelled c h))

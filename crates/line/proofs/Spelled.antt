@@ -1,19 +1,20 @@
 -- A call is read from the words that spell it, and from no others.
-use Rattle.std.proofs.Common.{◌≡◌, ℕ, ◌<◌, ◌≤◌, Bool, true, false, List, [], ◌∷◌, Some, None, Ok, Err, codes, Option, Result, refl, subst, ⊎_elim, arith}
-use lib.Utf8.{encode, scalar}
+use Rattle.std.proofs.Common.{◌≡◌, ℕ, ◌<◌, ◌≤◌, Bool, true, false, List, [], ◌∷◌, Some, None, Ok, Err, codes, Option, Result, IsUtf8, Decides, refl, subst, ⊎_elim, arith}
+use Rattle.std.specs.Char.{encode_utf8, IsScalar}
 use Rattle.std.proofs.lemmas.Slice.Eq.{bytes_eq-Decides}
 use Rattle.std.proofs.lemmas.Bool.{cases_lt, cond_both}
-use Rattle.std.proofs.lemmas.Str.{encode_ascii}
+use Rattle.std.proofs.lemmas.Str.{encode_ascii, IsUtf8-encode, IsUtf8-from_is_utf8, is_utf8-from_IsUtf8}
 use Rattle.std.proofs.lemmas.Bool.Decides.{nat_tests}
 use Rattle.std.specs.List.{AllByRecursion as All}
-use Rattle.std.specs.Str.{bytes_eq}
+use Rattle.std.specs.Str.{bytes_eq, is_utf8}
 use Rattle.line.specs.declared.calls.Call.{Call}
 use Rattle.line.specs.declared.calls.Call.TheVariants.{Enter, Strike, Set, Blank, Mode, Clear, Show}
 use Rattle.line.specs.declared.calls.NotCall.{NotCall}
+use Rattle.line.specs.declared.calls.NotCall.TheVariants.{NotText}
 use Rattle.line.specs.Words.{uncommented, words}
 use Rattle.line.specs.Values.{letter_of, number_of, share_of}
 use Rattle.line.specs.Calls.{with_rest, first_as, and_then, end_of, enter_of, strike_of, set_of, blank_of, mode_of, show_of, named_of, made_call, call_of}
-use Rattle.line.specs.Reading.{is_text, read_of}
+use Rattle.line.specs.Reading.{read_of}
 use Rattle.line.specs.Spelling.{ShareWord, LetterWord, Spells}
 use Rattle.line.specs.Texts.{Writable, Letter, Printable}
 use Rattle.line.proofs.Splits.{Plain, line_plain}
@@ -22,7 +23,7 @@ use Rattle.line.proofs.Characters.{letter_encode, letter_word}
 
 -- words that spell a call make it
 word_letter : (w : List ℕ) (c : ℕ) → LetterWord w c → letter_of w ≡ Ok c
-word_letter w c h = rw h.1 (letter_encode c h.0)
+word_letter w c h = rw h.1 (letter_encode c (IsUtf8-encode c h.0))
 
 pub spells_call : (ws : List (List ℕ)) (c : Call) → Spells ws c → call_of ws ≡ Ok (Some c)
 spells_call ws (Enter place rate safe coverage) h = rw (h.4, numeral_number h.0 place h.5, numeral_number h.1 rate h.6, word_share h.2 safe h.7, word_share h.3 coverage h.8) refl
@@ -125,15 +126,29 @@ call_spells : (ws : List (List ℕ)) (c : Call) → call_of ws ≡ Ok (Some c) �
 call_spells [] c h = let z : ◌≡◌ {A = ℕ} 0 1 = cc in absurd (omega arith)
 call_spells (name ∷ ws) c h = made_by name ws c (named_of name ws) refl h
 
+-- a line is text, or is told to be none
+pub text_decides : (line : List ℕ) → Decides (is_utf8 line) (IsUtf8 line)
+text_decides line = (IsUtf8-from_is_utf8 line, is_utf8-from_IsUtf8 line)
+
+not_text_by : (b : Bool) (line : List ℕ) → is_utf8 line ≡ b → ¬ (IsUtf8 line) → Err NotText ≡ read_of line
+not_text_by true line e h = absurd (h (IsUtf8-from_is_utf8 line e))
+not_text_by false line e h = rw e refl
+
+pub read_not_text : (line : List ℕ) → ¬ (IsUtf8 line) → Err NotText ≡ read_of line
+read_not_text line h = not_text_by (is_utf8 line) line refl h
+
+pub read_text : (line : List ℕ) → IsUtf8 line → call_of (words (uncommented line)) ≡ read_of line
+read_text line u = rw (is_utf8-from_IsUtf8 line u) refl
+
 -- both ways for a whole line
-accepted_by : (b : Bool) (line : List ℕ) (c : Call) → is_text line ≡ b → read_of line ≡ Ok (Some c) → (is_text line ≡ true) × Spells (words (uncommented line)) c
+accepted_by : (b : Bool) (line : List ℕ) (c : Call) → is_utf8 line ≡ b → read_of line ≡ Ok (Some c) → (is_utf8 line ≡ true) × Spells (words (uncommented line)) c
 accepted_by true line c e h = (e, call_spells (words (uncommented line)) c (rw e at h))
 accepted_by false line c e h = let k = rw e at h in let z : ◌≡◌ {A = ℕ} 0 1 = cc in absurd (omega arith)
 
-pub read_accepted : (line : List ℕ) (c : Call) → read_of line ≡ Ok (Some c) → (is_text line ≡ true) × Spells (words (uncommented line)) c
-read_accepted line c h = accepted_by (is_text line) line c refl h
+pub read_accepted : (line : List ℕ) (c : Call) → read_of line ≡ Ok (Some c) → (is_utf8 line ≡ true) × Spells (words (uncommented line)) c
+read_accepted line c h = accepted_by (is_utf8 line) line c refl h
 
-pub read_spelled : (line : List ℕ) (c : Call) → is_text line ≡ true → Spells (words (uncommented line)) c → read_of line ≡ Ok (Some c)
+pub read_spelled : (line : List ℕ) (c : Call) → is_utf8 line ≡ true → Spells (words (uncommented line)) c → read_of line ≡ Ok (Some c)
 read_spelled line c e h = rw e (spells_call (words (uncommented line)) c h)
 
 -- a call that was read can be printed
@@ -141,7 +156,7 @@ share_writable : (w : List ℕ) (s : Option ℕ) → ShareWord w s → Writable 
 share_writable w None h = tt
 share_writable w (Some n) h = h.below
 
-plain_letter : (c : ℕ) → scalar c ≡ true → All Plain (encode c) → Letter c
+plain_letter : (c : ℕ) → IsScalar c → All Plain (encode_utf8 c) → Letter c
 plain_letter c s h = ⊎_elim
     (λ (l : c < 128). let p = rw (encode_ascii c l) at h in (s, p.0.0, grind (arith, nat_tests, p.0.1)))
     (λ (l : 128 ≤ c). (s, grind (arith, nat_tests), omega arith))

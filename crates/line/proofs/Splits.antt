@@ -1,20 +1,30 @@
 -- How the words of a text come from its runs of blanks and of other bytes.
-use Rattle.std.proofs.Common.{◌≡◌, ℕ, ◌<◌, ◌≤◌, Bool, true, false, eqb, List, [], ◌∷◌, length, take, drop, refl, ◌∙◌, one-add, arith}
-use Rattle.std.specs.List.{prefix_len, AllByRecursion as All}
-use Rattle.line.specs.declared.words.Class.TheVariants.{Blank, Word}
-use Rattle.line.specs.Helpers.{in_class}
+use Rattle.std.proofs.Common.{◌≡◌, ℕ, ◌<◌, ◌≤◌, Bool, true, false, not, eqb, ltb, List, [], ◌∷◌, length, take, drop, Some, None, refl, ⊎_elim, ◌∙◌, one-add, arith, length-drop}
+use Rattle.std.proofs.lemmas.Bool.{cases_lt, lt-ltb, le-ltb, ltb-true}
+use Rattle.std.proofs.lemmas.List.Sums.{prefix_len-le-length}
+use Rattle.std.proofs.lemmas.Option.{cond_some}
+use Rattle.std.specs.List.{position, position_or_len, AllByRecursion as All}
+use Rattle.std.specs.Option.{unwrap_or}
 use Rattle.line.specs.Words.{blank, begins, comment_mark, joined, uncommented, words}
+
+-- where the first byte that passes stands, or how many bytes there are
+pub place : (p : ℕ → Bool) (bs : List ℕ) → unwrap_or (position p bs) (length bs) ≡ position_or_len p bs
+place p bs =
+    ⊎_elim
+    (λ (l : position_or_len p bs < length bs). rw (lt-ltb (position_or_len p bs) (length bs) l) refl)
+    (λ (l : length bs ≤ position_or_len p bs). rw (le-ltb (position_or_len p bs) (length bs) l) (omega (arith, prefix_len-le-length (λ c. not (p c)) bs)))
+    (cases_lt (position_or_len p bs) (length bs))
 
 -- how many blanks begin the text, and the text after them
 abbrev blanks : List ℕ → ℕ
-blanks bs = prefix_len (in_class Blank) bs
+blanks bs = position_or_len (λ c. not (blank c)) bs
 
 abbrev trimmed : List ℕ → List ℕ
 trimmed bs = drop (blanks bs) bs
 
 -- the length of the word that begins the text
 abbrev run : List ℕ → ℕ
-run bs = prefix_len (in_class Word) bs
+run bs = position_or_len blank bs
 
 -- blanks before a text change no word
 skipped : (b : Bool) (c : ℕ) (cs : List ℕ) → blank c ≡ b → words cs ≡ words (trimmed cs) → words (c ∷ cs) ≡ words (trimmed (c ∷ cs))
@@ -58,11 +68,19 @@ no_words : (bs : List ℕ) → length bs ≤ 0 → words bs ≡ []
 no_words [] h = refl
 no_words (c ∷ cs) h = absurd (omega arith)
 
-pub words_none : (bs : List ℕ) → length (trimmed bs) ≤ 0 → words bs ≡ []
-words_none bs h = words_trimmed bs ∙ no_words (trimmed bs) h
+-- where no byte of a word stands there is no word, and else a word begins with the first
+pub words_none : (bs : List ℕ) → position (λ c. not (blank c)) bs ≡ None → words bs ≡ []
+words_none bs e =
+    ⊎_elim
+    (λ (l : blanks bs < length bs). absurd (let k = rw (lt-ltb (blanks bs) (length bs) l) at e in cc))
+    (λ (l : length bs ≤ blanks bs). words_trimmed bs ∙ no_words (trimmed bs) (omega (arith, length-drop (blanks bs) bs)))
+    (cases_lt (blanks bs) (length bs))
 
-pub words_some : (bs : List ℕ) → 0 < length (trimmed bs) → words bs ≡ take (run (trimmed bs)) (trimmed bs) ∷ words (drop (run (trimmed bs)) (trimmed bs))
-words_some bs h = words_trimmed bs ∙ words_cut (trimmed bs) (begun bs h)
+pub words_some : (bs : List ℕ) (n : ℕ) → position (λ c. not (blank c)) bs ≡ Some n → words bs ≡ take (run (drop n bs)) (drop n bs) ∷ words (drop (run (drop n bs)) (drop n bs))
+words_some bs n e =
+    let k : (ltb (blanks bs) (length bs) ≡ true) × (blanks bs ≡ n) = cond_some (ltb (blanks bs) (length bs)) (blanks bs) n e in
+    let l : 0 < length (trimmed bs) = omega (arith, ltb-true (blanks bs) (length bs) k.0, length-drop (blanks bs) bs) in
+    rw (← k.1) (words_trimmed bs ∙ words_cut (trimmed bs) (begun bs l))
 
 -- a byte of a word: no blank and no comment mark
 abbrev pub Plain : ℕ → Type 0

@@ -1,15 +1,10 @@
--- The line that a buffer holds.
-use Rattle.std.specs.Prelude.{ℕ, ◌+◌, cond, List, ◌++◌, length, Some, None, Err, vec_items, Option, Result, nat_le}
-use Rattle.line.specs.declared.buffer.LineBuffer.{LineBuffer}
+-- How the line that a buffer holds grows, and what it is read as.
+use Rattle.std.specs.Prelude.{ℕ, ◌+◌, cond, List, ◌++◌, length, Some, None, Err, Option, Result, nat_le}
 use Rattle.line.specs.declared.calls.Call.{Call}
 use Rattle.line.specs.declared.calls.NotCall.{NotCall}
 use Rattle.line.specs.declared.calls.NotCall.TheVariants.{TooLong}
 use Rattle.line.specs.Limits.{line_limit}
 use Rattle.line.specs.Reading.{read_of}
-
--- the bytes of the line so far, or nothing where they are more than a line may have
-abbrev pub held : LineBuffer → Option (List ℕ)
-held b = cond b.overlong None (Some (vec_items b.bytes))
 
 -- the bytes with more after them, if a line may have so many
 abbrev pub extended : Option (List ℕ) → List ℕ → Option (List ℕ)

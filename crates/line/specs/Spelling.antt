@@ -1,6 +1,6 @@
 -- Which words spell a call: its name, and then for each of its parts a word that writes it.
 use Rattle.std.specs.Prelude.{◌≡◌, ℕ, ◌<◌, true, List, [], ◌∷◌, length, Some, None, codes, Option}
-use Rattle.std.proofs.Math.Utf8.{encode, scalar}
+use Rattle.std.specs.Char.{encode_utf8, IsScalar}
 use Rattle.std.specs.Str.Parse.{digits_value}
 use Rattle.std.specs.Str.{all_ascii_digits}
 use Rattle.line.specs.declared.calls.Call.{Call}
@@ -21,7 +21,7 @@ ShareWord w (Some n) = Numeral w n
 
 -- the word is the encoding of the one character c
 abbrev pub LetterWord : List ℕ → ℕ → Type 0
-LetterWord w c = (scalar c ≡ true) × (w ≡ encode c)
+LetterWord w c = IsScalar c × (w ≡ encode_utf8 c)
 
 -- these words spell this call, with no word left over
 abbrev pub Spells : List (List ℕ) → Call → Type 0

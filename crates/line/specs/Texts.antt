@@ -1,6 +1,6 @@
 -- A call as it stands on a line, and the reasons why a line is no call, in words.
-use Rattle.std.specs.Prelude.{◌≡◌, ℕ, ◌<◌, true, false, List, [], ◌∷◌, ◌++◌, Some, None, codes, decimal, Option, ◌≢◌}
-use Rattle.std.proofs.Math.Utf8.{encode, scalar}
+use Rattle.std.specs.Prelude.{◌≡◌, ℕ, ◌<◌, false, List, [], ◌∷◌, ◌++◌, Some, None, codes, decimal, Option, ◌≢◌}
+use Rattle.std.specs.Char.{encode_utf8, IsScalar}
 use Rattle.line.specs.declared.calls.Call.{Call}
 use Rattle.line.specs.declared.calls.Call.TheVariants.{Enter, Strike, Set, Blank, Mode, Clear, Show}
 use Rattle.line.specs.declared.calls.NotCall.{NotCall}
@@ -19,7 +19,7 @@ call_words (Enter place rate safe coverage) = codes "enter" ∷ decimal place �
 call_words (Strike row) = codes "strike" ∷ decimal row ∷ []
 call_words (Set place field value) = codes "set" ∷ decimal place ∷ decimal field ∷ decimal value ∷ []
 call_words (Blank place field) = codes "blank" ∷ decimal place ∷ decimal field ∷ []
-call_words (Mode letter) = codes "mode" ∷ encode letter ∷ []
+call_words (Mode letter) = codes "mode" ∷ encode_utf8 letter ∷ []
 call_words Clear = codes "clear" ∷ []
 call_words (Show place) = codes "show" ∷ decimal place ∷ []
 
@@ -40,7 +40,7 @@ Writable (Some n) = n < number_limit
 
 -- a character that can be a word: it is no blank and begins no comment
 abbrev pub Letter : ℕ → Type 0
-Letter c = (scalar c ≡ true) × (blank c ≡ false) × (c ≢ comment_mark)
+Letter c = IsScalar c × (blank c ≡ false) × (c ≢ comment_mark)
 
 -- a call that a line can write: its numbers are in range, and its letter can be a word
 abbrev pub Printable : Call → Type 0

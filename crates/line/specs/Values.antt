@@ -1,8 +1,7 @@
 -- What a word writes: a number, a share or a letter.
 use Rattle.std.specs.Prelude.{ℕ, Bool, cond, ◌&&◌, List, [], ◌∷◌, length, Some, None, Ok, Err, codes, Option, Result, nat_lt}
-use Rattle.std.proofs.Math.Utf8.{encode, scalar}
 use Rattle.std.specs.Str.Parse.{digits_value}
-use Rattle.std.specs.Str.{all_ascii_digits, chars, bytes_eq}
+use Rattle.std.specs.Str.{all_ascii_digits, chars, bytes_eq, is_utf8}
 use Rattle.line.specs.declared.calls.NotCall.{NotCall}
 use Rattle.line.specs.declared.calls.NotCall.TheVariants.{NotNumber, NumberTooLarge, NotLetter}
 use Rattle.line.specs.Limits.{number_limit}
@@ -24,12 +23,12 @@ given (Err e) = Err e
 abbrev pub share_of : List ℕ → Result (Option ℕ) NotCall
 share_of w = cond (bytes_eq w (codes "-")) (Ok None) (given (number_of w))
 
--- the one character of the list, if the word is its encoding
-abbrev pub only : List ℕ → List ℕ → Result ℕ NotCall
-only w [] = Err NotLetter
-only w (c ∷ []) = cond (scalar c && bytes_eq w (encode c)) (Ok c) (Err NotLetter)
-only w (c ∷ d ∷ cs) = Err NotLetter
+-- the one character of the list
+abbrev pub only : List ℕ → Result ℕ NotCall
+only [] = Err NotLetter
+only (c ∷ []) = Ok c
+only (c ∷ d ∷ cs) = Err NotLetter
 
--- the character that the word encodes, where it is a single one
+-- the character of a word that is text of a single one
 unfoldable pub letter_of : List ℕ → Result ℕ NotCall
-letter_of w = only w (chars w)
+letter_of w = cond (is_utf8 w) (only (chars w)) (Err NotLetter)

@@ -1,6 +1,6 @@
 -- How a line falls into words, and where its comment begins.
-use Rattle.std.specs.Prelude.{ℕ, Bool, true, false, cond, not, ◌||◌, List, [], ◌∷◌, take, ◌==◌}
-use Rattle.std.specs.List.{prefix_len}
+use Rattle.std.specs.Prelude.{ℕ, Bool, true, false, cond, not, ◌||◌, List, [], ◌∷◌, ◌==◌}
+use Rattle.std.specs.List.{before_first}
 
 abbrev pub space : ℕ
 space = 32
@@ -15,7 +15,7 @@ comment_mark = 35
 
 -- the line up to its first comment mark
 abbrev pub uncommented : List ℕ → List ℕ
-uncommented line = take (prefix_len (λ c. not (c == comment_mark)) line) line
+uncommented line = before_first (λ c. c == comment_mark) line
 
 -- the text begins with a byte of a word
 abbrev pub begins : List ℕ → Bool

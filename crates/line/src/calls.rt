@@ -1,7 +1,8 @@
 // The calls that a line can make, the reasons why a line is no call, and the text of both.
 ghost use Rattle.line.specs.Texts.{call_text, not_call_text, share_text};
-ghost use Rattle.std.specs.Prelude.{◌≡◌, Some};
+ghost use Rattle.std.specs.Prelude.{Some};
 
+use std::error::Error;
 use std::fmt;
 
 // A call with its numbers as they stand on the line: whether there is such a place or row is not decided here.
@@ -91,12 +92,12 @@ impl fmt::Display for Call {
     }
 }
 
-impl NotCall {
-    // The reason in words.
-    fn text(self) -> &'static str
-        ensures { result.now ≡ not_call_text self }
-    {
-        match self {
+// By hand, since a derived error promises nothing of its text.
+impl fmt::Display for NotCall {
+    ghost output = { λ n. Some (not_call_text n) };
+
+    fn fmt<W: fmt::Write>(&self, f: &mut fmt::Formatter<W>) -> fmt::Result {
+        f.write_str(match self {
             NotCall::NotText => "line is not text",
             NotCall::TooLong => "line is longer than 4096 bytes",
             NotCall::UnknownName => "no call has this name",
@@ -105,15 +106,8 @@ impl NotCall {
             NotCall::NumberTooLarge => "number too large",
             NotCall::NotLetter => "not a single character",
             NotCall::TooManyWords => "too many words",
-        }
+        })
     }
 }
 
-impl fmt::Display for NotCall {
-    ghost output = { λ n. Some (not_call_text n) };
-
-    fn fmt<W: fmt::Write>(&self, f: &mut fmt::Formatter<W>) -> fmt::Result {
-        let text = self.text();
-        write!(f, "{text}")
-    }
-}
+impl Error for NotCall {}

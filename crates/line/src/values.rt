@@ -1,45 +1,55 @@
 // What a single word writes: a number, a share or a letter.
-ghost use Rattle.line.specs.Values.{letter_of, number_of, share_of};
-ghost use Rattle.std.specs.Prelude.{◌≡◌};
+ghost use Rattle.std.specs.Prelude.{◌≡◌, ℕ, List, Result};
+ghost use Rattle.line.specs.Values.{is_numeral, letter_of, number_of, share_of};
+ghost use Rattle.line.specs.declared.calls.NotCall.{NotCall};
 
 use crate::calls::NotCall;
-use crate::words::{Class, leading_bytes, same_text};
 
-// The number that a word of digits writes.
-pub(crate) fn number(word: &[u8]) -> Result<u32, NotCall>
-    ensures { result ≡ number_of word.now }
+// A value that a word can write.
+pub(crate) trait FromWord: Sized {
+    ghost value_of: { List ℕ → Result Self NotCall };
+
+    // Reads the value from the word.
+    fn from_word(word: &str) -> Result<Self, NotCall>
+        ensures { result ≡ value_of word.now };
+}
+
+// Whether a word is one digit or more, and nothing else.
+fn is_numeral(word: &str) -> bool
+    ensures { result ≡ is_numeral word.now }
 {
-    if word.is_empty() || leading_bytes(word, Class::Digit) < word.len() {
-        return Err(NotCall::NotNumber);
-    }
-    let Ok(digits) = std::str::from_utf8(word) else {
-        return Err(NotCall::NotNumber);
-    };
-    match digits.parse::<u32>() {
-        Ok(n) => Ok(n),
-        Err(_) => Err(NotCall::NumberTooLarge),
+    !word.is_empty() && word.as_bytes().iter().all(u8::is_ascii_digit)
+}
+
+// A number is written by digits, and by no sign.
+impl FromWord for u32 {
+    ghost value_of = { number_of };
+
+    fn from_word(word: &str) -> Result<u32, NotCall> {
+        if !is_numeral(word) {
+            return Err(NotCall::NotNumber);
+        }
+        word.parse().map_err(|_| NotCall::NumberTooLarge)
     }
 }
 
-// The number that a word writes, or none where the word is `-`.
-pub(crate) fn share(word: &[u8]) -> Result<Option<u32>, NotCall>
-    ensures { result ≡ share_of word.now }
-{
-    if same_text(word, "-") {
-        return Ok(None);
+// A share is written by a number, or by `-` where it is blank.
+impl FromWord for Option<u32> {
+    ghost value_of = { share_of };
+
+    fn from_word(word: &str) -> Result<Option<u32>, NotCall> {
+        match word {
+            "-" => Ok(None),
+            _ => u32::from_word(word).map(Some),
+        }
     }
-    Ok(Some(number(word)?))
 }
 
-// The one character that a word is.
-pub(crate) fn letter(word: &[u8]) -> Result<char, NotCall>
-    ensures { result ≡ letter_of word.now }
-{
-    let Ok(text) = std::str::from_utf8(word) else {
-        return Err(NotCall::NotLetter);
-    };
-    match text.parse::<char>() {
-        Ok(letter) => Ok(letter),
-        Err(_) => Err(NotCall::NotLetter),
+// A letter is written by a word of one character.
+impl FromWord for char {
+    ghost value_of = { letter_of };
+
+    fn from_word(word: &str) -> Result<char, NotCall> {
+        word.parse().map_err(|_| NotCall::NotLetter)
     }
 }

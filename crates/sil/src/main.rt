@@ -17,12 +17,7 @@ use std::process::ExitCode;
 fn line_end(bytes: &[u8]) -> Option<usize>
     ensures { MatchOption result (Unended bytes.now (length bytes.now)) (λ n. (n < length bytes.now) × (slice_index bytes.now n ≡ 10) × Unended bytes.now n) }
 {
-    for (i, b) in bytes.iter().enumerate() {
-        if *b == b'\n' {
-            return Some(i);
-        }
-    }
-    None
+    bytes.iter().position(|b| *b == b'\n')
 }
 
 // Prints the answer to a line that has come in whole.

@@ -1,5 +1,5 @@
 // How a line is collected: its parts are added as they come, and at its end it is read.
-ghost use Rattle.line.specs.Buffer.{extended, held, read_held};
+ghost use Rattle.line.specs.Buffer.{extended, read_held};
 ghost use Rattle.std.specs.Prelude.{◌≡◌, [], IfOk, Some};
 
 use super::{LINE_LIMIT, LineBuffer};
@@ -10,7 +10,7 @@ use std::alloc::{AllocError, Global};
 impl LineBuffer {
     // An empty buffer, with room for the longest line.
     pub fn new(heap: Global) -> Result<LineBuffer, AllocError>
-        ensures { IfOk result (λ b. held b ≡ Some []) }
+        ensures { IfOk result (λ b. b ≡ Some []) }
     {
         let bytes = Vec::with_capacity(heap, LINE_LIMIT)?;
         Ok(LineBuffer {
@@ -21,7 +21,7 @@ impl LineBuffer {
 
     // Adds the bytes of `part` to the line.
     pub fn add(&mut self, part: &[u8])
-        ensures { held self.new ≡ extended (held self.old) part.now }
+        ensures { self.new ≡ extended self.old part.now }
     {
         if part.len() <= LINE_LIMIT - self.bytes.len() {
             // there is room, so that this neither allocates nor fails
@@ -33,8 +33,8 @@ impl LineBuffer {
 
     // Reads the line so far, and empties the buffer for the next.
     pub fn finish(&mut self) -> Result<Option<Call>, NotCall>
-        ensures answer { result ≡ read_held (held self.old) }
-        ensures after { held self.new ≡ Some [] }
+        ensures answer { result ≡ read_held self.old }
+        ensures after { self.new ≡ Some [] }
     {
         let answer = if self.overlong {
             Err(NotCall::TooLong)

@@ -1,16 +1,15 @@
-use Rattle.std.proofs.Common.{ℕ, List, sym, ap, ◌∙◌}
+use Rattle.std.proofs.Common.{◌≡◌, ℕ, List, sym, ap, ◌∙◌, rules}
 use Rattle.line.specs.Calls.{call_of}
-use Rattle.line.specs.Reading.{read_of}
 use Rattle.line.specs.Words.{words}
-use Rattle.line.proofs.Characters.{read_text, read_not_text, text_decides}
+use Rattle.line.specs.Reading.{read_of}
 use Rattle.line.proofs.Printed.{read_back}
-use Rattle.line.proofs.Spelled.{read_accepted, read_printable, read_spelled}
+use Rattle.line.proofs.Spelled.{text_decides, read_not_text, read_text, read_accepted, read_printable, read_spelled}
 use Rattle.line.proofs.reading.read.Goals as goal
 
-pub returns-in-Ok : goal.returns-in-Ok
-returns-in-Ok c =
+pub returns-in_err-line : goal.returns-in_err-line
+returns-in_err-line c =
     let line : List ℕ = c.args.line.now in
-    let e = c.call.ensures ∙ (ap (λ (t : List ℕ). call_of (words t)) c.before_comment.ensures ∙ read_text line c.in-Ok.ensures.cases.1) in
+    let e : c.from_residual.result ≡ read_of line = search (rules, read_not_text) in
     record {
       value = e;
       text = text_decides line;
@@ -20,10 +19,11 @@ returns-in-Ok c =
       back = λ k h p. e ∙ (ap read_of p ∙ read_back k h);
     }
 
-pub returns-in-Err : goal.returns-in-Err
-returns-in-Err c =
+pub returns : goal.returns
+returns c =
     let line : List ℕ = c.args.line.now in
-    let e = read_not_text line c.in-Err.ensures.cases.0 in
+    let t : c.in_ok-line.line.now ≡ line = search rules in
+    let e = c.call.ensures ∙ (ap (λ (x : List ℕ). call_of (words x)) (rw t at c.before_comment.ensures) ∙ read_text line (search rules)) in
     record {
       value = e;
       text = text_decides line;
