@@ -1,10 +1,10 @@
 -- The line that an answer is printed as.
 use Rattle.std.specs.Prelude.{ℕ, ◌/◌, ◌%◌, List, [], ◌++◌, Some, None, codes, decimal, Option}
 use Rattle.console.specs.declared.answers.Answer.{Answer}
-use Rattle.sheet.specs.declared.fault.Fault.{Fault}
 use Rattle.sheet.specs.declared.fault.Refusal.{Refusal}
 use Rattle.line.specs.Texts.{not_call_text}
-use Rattle.sheet.specs.Refusals.{refusal_of}
+use Rattle.sheet.specs.Refusals.{layer_number, refusal_of}
+use Rattle.sheet.specs.Texts.{meaning_text}
 
 -- tenths of a per cent as a decimal, as 80.0
 abbrev pub tenths_text : ℕ → List ℕ
@@ -20,26 +20,13 @@ abbrev pub part_text : List ℕ → Option ℕ → List ℕ
 part_text name None = []
 part_text name (Some n) = codes " " ++ (name ++ (codes " " ++ decimal n))
 
--- what a refusal means, in words
-abbrev pub meaning_text : Fault → List ℕ
-meaning_text (Fault.PlaceOver p i) = codes "place over 7"
-meaning_text (Fault.RateOutside p) = codes "rate outside 1 to 100000000"
-meaning_text (Fault.ShareOver p) = codes "safe share or coverage over 1000"
-meaning_text (Fault.SheetFull p) = codes "64 rows stand already"
-meaning_text (Fault.RowBeyond r) = codes "no such row"
-meaning_text (Fault.FieldOutside p f) = codes "field not 1 to 8"
-meaning_text (Fault.ValueOutside p f) = codes "value outside the limits of its field"
-meaning_text Fault.LetterUnknown = codes "mode letter not L or H"
-meaning_text (Fault.RowsMissing p) = codes "place without rows"
-meaning_text (Fault.ShareBlank p r) = codes "safe share or coverage blank"
-
 -- number, place, item and layer, then the meaning
 abbrev pub refused_text : Refusal → List ℕ → List ℕ
 refused_text r meaning =
     codes "refused "
     ++ (decimal r.number
     ++ (part_text (codes "place") r.place
-    ++ (part_text (codes "item") r.item ++ (codes " layer " ++ (decimal r.layer ++ (codes ": " ++ meaning))))))
+    ++ (part_text (codes "item") r.item ++ (codes " layer " ++ (decimal (layer_number r.layer) ++ (codes ": " ++ meaning))))))
 
 abbrev pub answer_text : Answer → List ℕ
 answer_text (Answer.Row n) = codes "row " ++ decimal n

@@ -1,35 +1,16 @@
 // A line that has come in whole is read, the call that it makes is handed to the sheet, and the result is the answer.
 ghost use Rattle.std.specs.Prelude.{◌≡◌, [], Some};
 ghost use Rattle.line.specs.Buffer.{read_held};
-ghost use Rattle.sheet.specs.Holds.{model};
-ghost use Rattle.sheet.specs.Refusals.{answer_of};
-ghost use Rattle.console.specs.Replies.{Replies, Responds, TellsDone, TellsRow};
+ghost use Rattle.console.specs.Helpers.{told};
+ghost use Rattle.console.specs.Replies.{Replies, Responds};
 
 use crate::answers::Answer;
 use line::{Call, LineBuffer};
 use sheet::{Fault, Sheet};
 
-fn done(res: Result<(), Fault>) -> Answer
-    ensures { TellsDone result (answer_of res) }
-{
-    match res {
-        Ok(()) => Answer::Done,
-        Err(fault) => Answer::Refused(fault),
-    }
-}
-
-fn row(res: Result<u32, Fault>) -> Answer
-    ensures { TellsRow result (answer_of res) }
-{
-    match res {
-        Ok(number) => Answer::Row(number),
-        Err(fault) => Answer::Refused(fault),
-    }
-}
-
-// Carries out one call.
-pub(crate) fn carry_out(sheet: &mut Sheet, call: Call) -> Answer
-    ensures { Replies call (model sheet.old) result (model sheet.new) }
+// Carries out one call, unless the sheet refuses it.
+fn carry_out(sheet: &mut Sheet, call: Call) -> Result<Answer, Fault>
+    ensures { Replies call sheet.old (told result) sheet.new }
 {
     match call {
         Call::Enter {
@@ -37,33 +18,30 @@ pub(crate) fn carry_out(sheet: &mut Sheet, call: Call) -> Answer
             rate,
             safe,
             coverage,
-        } => row(sheet.enter(place, rate, safe, coverage)),
-        Call::Strike { row } => done(sheet.strike(row)),
+        } => sheet.enter(place, rate, safe, coverage).map(Answer::Row),
+        Call::Strike { row } => sheet.strike(row).map(|()| Answer::Done),
         Call::Set {
             place,
             field,
             value,
-        } => done(sheet.set(place, field, value)),
-        Call::Blank { place, field } => done(sheet.blank(place, field)),
-        Call::Mode { letter } => done(sheet.set_mode(letter)),
+        } => sheet.set(place, field, value).map(|()| Answer::Done),
+        Call::Blank { place, field } => sheet.blank(place, field).map(|()| Answer::Done),
+        Call::Mode { letter } => sheet.set_mode(letter).map(|()| Answer::Done),
         Call::Clear => {
             sheet.clear();
-            Answer::Done
+            Ok(Answer::Done)
         }
-        Call::Show { place } => match sheet.show(place) {
-            Ok(percentages) => Answer::Shown(percentages),
-            Err(fault) => Answer::Refused(fault),
-        },
+        Call::Show { place } => sheet.show(place).map(Answer::Shown),
     }
 }
 
 // Answers the line that has come in, or nothing where it has no words, and empties it for the next.
 pub fn respond(sheet: &mut Sheet, line: &mut LineBuffer) -> Option<Answer>
-    ensures answer { Responds (read_held line.old) (model sheet.old) result (model sheet.new) }
+    ensures answer { Responds (read_held line.old) sheet.old result sheet.new }
     ensures emptied { line.new ≡ Some [] }
 {
     match line.finish() {
-        Ok(Some(call)) => Some(carry_out(sheet, call)),
+        Ok(Some(call)) => Some(carry_out(sheet, call).unwrap_or_else(Answer::Refused)),
         Ok(None) => None,
         Err(why) => Some(Answer::NotCall(why)),
     }

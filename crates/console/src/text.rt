@@ -1,9 +1,9 @@
 // An answer as a line of text.
-ghost use Rattle.std.specs.Prelude.{◌≡◌, Some, None};
-ghost use Rattle.console.specs.Texts.{answer_text, tenths_text, part_text, meaning_text};
+ghost use Rattle.std.specs.Prelude.{Some};
+ghost use Rattle.console.specs.Texts.{answer_text, tenths_text, part_text};
 
 use crate::answers::Answer;
-use sheet::Fault;
+use sheet::Refusal;
 use std::fmt;
 
 // Tenths of a per cent.
@@ -36,24 +36,6 @@ impl fmt::Display for Part<'_> {
     }
 }
 
-// What a fault means, in words.
-fn meaning(fault: Fault) -> &'static str
-    ensures { result.now ≡ meaning_text fault }
-{
-    match fault {
-        Fault::PlaceOver { .. } => "place over 7",
-        Fault::RateOutside { .. } => "rate outside 1 to 100000000",
-        Fault::ShareOver { .. } => "safe share or coverage over 1000",
-        Fault::SheetFull { .. } => "64 rows stand already",
-        Fault::RowBeyond { .. } => "no such row",
-        Fault::FieldOutside { .. } => "field not 1 to 8",
-        Fault::ValueOutside { .. } => "value outside the limits of its field",
-        Fault::LetterUnknown => "mode letter not L or H",
-        Fault::RowsMissing { .. } => "place without rows",
-        Fault::ShareBlank { .. } => "safe share or coverage blank",
-    }
-}
-
 impl fmt::Display for Answer {
     ghost output = { λ a. Some (answer_text a) };
 
@@ -72,13 +54,12 @@ impl fmt::Display for Answer {
                 }
             }
             Answer::Refused(fault) => {
-                let refusal = fault.refusal();
+                let refusal = Refusal::from(fault);
                 let number = refusal.number;
                 let place = Part("place", refusal.place);
                 let item = Part("item", refusal.item);
-                let layer = refusal.layer;
-                let meaning = meaning(fault);
-                write!(f, "refused {number}{place}{item} layer {layer}: {meaning}")
+                let layer = u8::from(refusal.layer);
+                write!(f, "refused {number}{place}{item} layer {layer}: {fault}")
             }
             Answer::NotCall(why) => write!(f, "not a call: {why}"),
         }
