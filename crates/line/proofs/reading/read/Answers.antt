@@ -1,6 +1,5 @@
 use Rattle.std.proofs.Common.{◌≡◌, ℕ, List, sym, ap, ◌∙◌, rules}
 use Rattle.line.specs.Calls.{call_of}
-use Rattle.line.specs.Words.{words}
 use Rattle.line.specs.Reading.{read_of}
 use Rattle.line.proofs.Printed.{read_back}
 use Rattle.line.proofs.Spelled.{text_decides, read_not_text, read_text, read_accepted, read_printable, read_spelled}
@@ -23,7 +22,7 @@ pub returns : goal.returns
 returns c =
     let line : List ℕ = c.args.line.now in
     let t : c.in_ok-line.line.now ≡ line = search rules in
-    let e = c.call.ensures ∙ (ap (λ (x : List ℕ). call_of (words x)) (rw t at c.before_comment.ensures) ∙ read_text line (search rules)) in
+    let e = c.call.ensures ∙ (ap call_of c.of_line.ensures ∙ rw t (read_text line (search rules))) in
     record {
       value = e;
       text = text_decides line;
