@@ -28,74 +28,37 @@ fn end(words: &mut Words<'_>, call: Call) -> Result<Call, NotCall>
     }
 }
 
-fn enter(words: &mut Words<'_>) -> Result<Call, NotCall>
-    ensures { result ≡ enter_of words.old }
-{
-    let call = Call::Enter {
-        place: part(words)?,
-        rate: part(words)?,
-        safe: part(words)?,
-        coverage: part(words)?,
-    };
-    end(words, call)
-}
-
-fn strike(words: &mut Words<'_>) -> Result<Call, NotCall>
-    ensures { result ≡ strike_of words.old }
-{
-    let row = part(words)?;
-    end(words, Call::Strike { row })
-}
-
-fn set(words: &mut Words<'_>) -> Result<Call, NotCall>
-    ensures { result ≡ set_of words.old }
-{
-    let call = Call::Set {
-        place: part(words)?,
-        field: part(words)?,
-        value: part(words)?,
-    };
-    end(words, call)
-}
-
-fn blank(words: &mut Words<'_>) -> Result<Call, NotCall>
-    ensures { result ≡ blank_of words.old }
-{
-    let call = Call::Blank {
-        place: part(words)?,
-        field: part(words)?,
-    };
-    end(words, call)
-}
-
-fn mode(words: &mut Words<'_>) -> Result<Call, NotCall>
-    ensures { result ≡ mode_of words.old }
-{
-    let letter = part(words)?;
-    end(words, Call::Mode { letter })
-}
-
-fn show(words: &mut Words<'_>) -> Result<Call, NotCall>
-    ensures { result ≡ show_of words.old }
-{
-    let place = part(words)?;
-    end(words, Call::Show { place })
-}
-
 // The call of this name, from the words after the name.
 fn named(name: &str, words: &mut Words<'_>) -> Result<Call, NotCall>
     ensures { result ≡ named_of name.now words.old }
 {
-    match name {
-        "enter" => enter(words),
-        "strike" => strike(words),
-        "set" => set(words),
-        "blank" => blank(words),
-        "mode" => mode(words),
-        "clear" => end(words, Call::Clear),
-        "show" => show(words),
-        _ => Err(NotCall::UnknownName),
-    }
+    let call = match name {
+        "enter" => Call::Enter {
+            place: part(words)?,
+            rate: part(words)?,
+            safe: part(words)?,
+            coverage: part(words)?,
+        },
+        "strike" => Call::Strike { row: part(words)? },
+        "set" => Call::Set {
+            place: part(words)?,
+            field: part(words)?,
+            value: part(words)?,
+        },
+        "blank" => Call::Blank {
+            place: part(words)?,
+            field: part(words)?,
+        },
+        "mode" => Call::Mode {
+            letter: part(words)?,
+        },
+        "clear" => Call::Clear,
+        "show" => Call::Show {
+            place: part(words)?,
+        },
+        _ => return Err(NotCall::UnknownName),
+    };
+    end(words, call)
 }
 
 // The call that the words make, or none where there are no words.
