@@ -18,16 +18,6 @@ fn part<T: FromWord>(words: &mut Words<'_>) -> Result<T, NotCall>
     T::from_word(words.next().ok_or(NotCall::WordMissing)?)
 }
 
-// The call, where no word is left.
-fn end(words: &mut Words<'_>, call: Call) -> Result<Call, NotCall>
-    ensures { result ≡ end_of call words.old }
-{
-    match words.next() {
-        None => Ok(call),
-        Some(_) => Err(NotCall::TooManyWords),
-    }
-}
-
 // The call of this name, from the words after the name.
 fn named(name: &str, words: &mut Words<'_>) -> Result<Call, NotCall>
     ensures { result ≡ named_of name.now words.old }
@@ -58,7 +48,10 @@ fn named(name: &str, words: &mut Words<'_>) -> Result<Call, NotCall>
         },
         _ => return Err(NotCall::UnknownName),
     };
-    end(words, call)
+    match words.next() {
+        None => Ok(call),
+        Some(_) => Err(NotCall::TooManyWords),
+    }
 }
 
 // The call that the words make, or none where there are no words.
