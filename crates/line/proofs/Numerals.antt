@@ -61,8 +61,8 @@ numeral_by true true w n e l h =
     let p = and_parts (all_ascii_digits w) _ e in
     let v : digits_value 10 w ≡ n = cc in
     record { digits = p.0; some = ltb-true 0 (length w) p.1; writes = v; below = rw v at (ltb-true (digits_value 10 w) number_limit l) }
-numeral_by true false w n e l h = let z : ◌≡◌ {A = ℕ} 0 1 = cc in absurd (omega arith)
-numeral_by false b w n e l h = let z : ◌≡◌ {A = ℕ} 0 1 = cc in absurd (omega arith)
+numeral_by true false w n e l h = absurd (cc)
+numeral_by false b w n e l h = absurd (cc)
 
 pub number_numeral : (w : List ℕ) (n : ℕ) → number_of w ≡ Ok n → Numeral w n
 unfolding number_of
@@ -79,10 +79,10 @@ word_share w (Some n) h = rw (not_blank_share w h.digits, numeral_number w n h) 
 
 share_by : (b : Bool) (r : Result ℕ NotCall) (w : List ℕ) (s : Option ℕ) → bytes_eq w (codes "-") ≡ b → number_of w ≡ r → cond b (Ok None) (given r) ≡ Ok s → ShareWord w s
 share_by true r w None e f h = (bytes_eq-Decides w (codes "-")).0 e
-share_by true r w (Some n) e f h = let z : ◌≡◌ {A = ℕ} 0 1 = cc in absurd (omega arith)
-share_by false (Ok m) w None e f h = let z : ◌≡◌ {A = ℕ} 0 1 = cc in absurd (omega arith)
+share_by true r w (Some n) e f h = absurd (cc)
+share_by false (Ok m) w None e f h = absurd (cc)
 share_by false (Ok m) w (Some n) e f h = number_numeral w n (cc)
-share_by false (Err x) w s e f h = let z : ◌≡◌ {A = ℕ} 0 1 = cc in absurd (omega arith)
+share_by false (Err x) w s e f h = absurd (cc)
 
 pub share_word : (w : List ℕ) (s : Option ℕ) → share_of w ≡ Ok s → ShareWord w s
 share_word w s h = share_by (bytes_eq w (codes "-")) (number_of w) w s refl refl h

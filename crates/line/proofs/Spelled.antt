@@ -5,7 +5,7 @@ use Rattle.std.proofs.lemmas.Slice.Eq.{bytes_eq-Decides}
 use Rattle.std.proofs.lemmas.Bool.{cases_lt, cond_both}
 use Rattle.std.proofs.lemmas.Str.{encode_ascii, IsUtf8-encode, IsUtf8-from_is_utf8, is_utf8-from_IsUtf8}
 use Rattle.std.proofs.lemmas.Bool.Decides.{nat_tests}
-use Rattle.std.specs.List.{AllByRecursion as All}
+use Rattle.std.specs.List.{AllByRecursion}
 use Rattle.std.specs.Str.{bytes_eq, is_utf8}
 use Rattle.line.specs.declared.calls.Call.{Call}
 use Rattle.line.specs.declared.calls.Call.TheVariants.{Enter, Strike, Set, Blank, Mode, Clear, Show}
@@ -45,16 +45,16 @@ record Taken {X : Type 0} (f : List ℕ → Result X NotCall) (ws : List (List �
 
 taken_by : {X : Type 0} (f : List ℕ → Result X NotCall) (w : List ℕ) (ws : List (List ℕ)) (go : X → List (List ℕ) → Result Call NotCall) (c : Call) (r : Result X NotCall) → f w ≡ r → and_then (with_rest r ws) go ≡ Ok c → Taken f (w ∷ ws) go c
 taken_by f w ws go c (Ok x) e h = record { word = w; rest = ws; part = x; cut = refl; reads = e; after = h }
-taken_by f w ws go c (Err n) e h = let z : ◌≡◌ {A = ℕ} 0 1 = cc in absurd (omega arith)
+taken_by f w ws go c (Err n) e h = absurd (cc)
 
 taken : {X : Type 0} (f : List ℕ → Result X NotCall) (ws : List (List ℕ)) (go : X → List (List ℕ) → Result Call NotCall) (c : Call) → and_then (first_as f ws) go ≡ Ok c → Taken f ws go c
-taken f [] go c h = let z : ◌≡◌ {A = ℕ} 0 1 = cc in absurd (omega arith)
+taken f [] go c h = absurd (cc)
 taken f (w ∷ ws) go c h = taken_by f w ws go c (f w) refl h
 
 -- and at its end no word was left
 ended : (k : Call) (ws : List (List ℕ)) (c : Call) → end_of k ws ≡ Ok c → (ws ≡ []) × (k ≡ c)
 ended k [] c h = (refl, cc)
-ended k (w ∷ ws) c h = let z : ◌≡◌ {A = ℕ} 0 1 = cc in absurd (omega arith)
+ended k (w ∷ ws) c h = absurd (cc)
 
 -- so the words of each kind of call spell it
 same_call : (ws : List (List ℕ)) (k c : Call) → k ≡ c → Spells ws k → Spells ws c
@@ -116,14 +116,14 @@ named_spells name ws c =
     (λ _. cond_both (bytes_eq name (codes "mode")) _ _ P (λ t. mode_spells name ws c (same (codes "mode") t))
     (λ _. cond_both (bytes_eq name (codes "clear")) _ _ P (λ t. clear_spells name ws c (same (codes "clear") t))
     (λ _. cond_both (bytes_eq name (codes "show")) _ _ P (λ t. show_spells name ws c (same (codes "show") t))
-    (λ _ h. let z : ◌≡◌ {A = ℕ} 0 1 = cc in absurd (omega arith))))))))
+    (λ _ h. absurd (cc))))))))
 
 made_by : (name : List ℕ) (ws : List (List ℕ)) (c : Call) (r : Result Call NotCall) → named_of name ws ≡ r → made_call r ≡ Ok (Some c) → Spells (name ∷ ws) c
 made_by name ws c (Ok k) e h = named_spells name ws c (cc)
-made_by name ws c (Err n) e h = let z : ◌≡◌ {A = ℕ} 0 1 = cc in absurd (omega arith)
+made_by name ws c (Err n) e h = absurd (cc)
 
 call_spells : (ws : List (List ℕ)) (c : Call) → call_of ws ≡ Ok (Some c) → Spells ws c
-call_spells [] c h = let z : ◌≡◌ {A = ℕ} 0 1 = cc in absurd (omega arith)
+call_spells [] c h = absurd (cc)
 call_spells (name ∷ ws) c h = made_by name ws c (named_of name ws) refl h
 
 -- a line is text, or is told to be none
@@ -143,7 +143,7 @@ read_text line u = rw (is_utf8-from_IsUtf8 line u) refl
 -- both ways for a whole line
 accepted_by : (b : Bool) (line : List ℕ) (c : Call) → is_utf8 line ≡ b → read_of line ≡ Ok (Some c) → (is_utf8 line ≡ true) × Spells (words (uncommented line)) c
 accepted_by true line c e h = (e, call_spells (words (uncommented line)) c (rw e at h))
-accepted_by false line c e h = let k = rw e at h in let z : ◌≡◌ {A = ℕ} 0 1 = cc in absurd (omega arith)
+accepted_by false line c e h = let k = rw e at h in absurd (cc)
 
 pub read_accepted : (line : List ℕ) (c : Call) → read_of line ≡ Ok (Some c) → (is_utf8 line ≡ true) × Spells (words (uncommented line)) c
 read_accepted line c h = accepted_by (is_utf8 line) line c refl h
@@ -156,13 +156,13 @@ share_writable : (w : List ℕ) (s : Option ℕ) → ShareWord w s → Writable 
 share_writable w None h = tt
 share_writable w (Some n) h = h.below
 
-plain_letter : (c : ℕ) → IsScalar c → All Plain (encode_utf8 c) → Letter c
+plain_letter : (c : ℕ) → IsScalar c → AllByRecursion Plain (encode_utf8 c) → Letter c
 plain_letter c s h = ⊎_elim
     (λ (l : c < 128). let p = rw (encode_ascii c l) at h in (s, p.0.0, grind (arith, nat_tests, p.0.1)))
     (λ (l : 128 ≤ c). (s, grind (arith, nat_tests), omega arith))
     (cases_lt c 128)
 
-spelled_printable : (ws : List (List ℕ)) (c : Call) → All (All Plain) ws → Spells ws c → Printable c
+spelled_printable : (ws : List (List ℕ)) (c : Call) → AllByRecursion (AllByRecursion Plain) ws → Spells ws c → Printable c
 spelled_printable ws (Enter place rate safe coverage) a h = (h.5.below, h.6.below, share_writable h.2 safe h.7, share_writable h.3 coverage h.8)
 spelled_printable ws (Strike row) a h = h.2.below
 spelled_printable ws (Set place field value) a h = (h.4.below, h.5.below, h.6.below)

@@ -3,7 +3,7 @@ use Rattle.std.proofs.Common.{◌≡◌, ℕ, ◌<◌, ◌≤◌, Bool, true, fa
 use Rattle.std.proofs.lemmas.Bool.{cases_lt, lt-ltb, le-ltb, ltb-true}
 use Rattle.std.proofs.lemmas.List.Sums.{prefix_len-le-length}
 use Rattle.std.proofs.lemmas.Option.{cond_some}
-use Rattle.std.specs.List.{position, position_or_len, AllByRecursion as All}
+use Rattle.std.specs.List.{position, position_or_len, AllByRecursion}
 use Rattle.std.specs.Option.{unwrap_or}
 use Rattle.line.specs.Words.{blank, begins, comment_mark, joined, uncommented, words}
 
@@ -88,7 +88,7 @@ Plain c = (blank c ≡ false) × (eqb c comment_mark ≡ false)
 
 -- the words of a line before its comment have only such bytes
 abbrev Unmarked : List ℕ → Type 0
-Unmarked bs = All (λ c. eqb c comment_mark ≡ false) bs
+Unmarked bs = AllByRecursion (λ c. eqb c comment_mark ≡ false) bs
 
 unmarked_by : (b : Bool) (c : ℕ) (cs : List ℕ) → eqb c comment_mark ≡ b → Unmarked (uncommented cs) → Unmarked (uncommented (c ∷ cs))
 unmarked_by true c cs e h = rw e tt
@@ -98,18 +98,18 @@ unmarked : (bs : List ℕ) → Unmarked (uncommented bs)
 unmarked [] = tt
 unmarked (c ∷ cs) = unmarked_by (eqb c comment_mark) c cs refl (unmarked cs)
 
-joined_plain : (b : Bool) (c : ℕ) (ws : List (List ℕ)) → Plain c → All (All Plain) ws → All (All Plain) (joined b c ws)
+joined_plain : (b : Bool) (c : ℕ) (ws : List (List ℕ)) → Plain c → AllByRecursion (AllByRecursion Plain) ws → AllByRecursion (AllByRecursion Plain) (joined b c ws)
 joined_plain false c ws p h = ((p, tt), h)
 joined_plain true c [] p h = ((p, tt), tt)
 joined_plain true c (w ∷ ws) p h = ((p, h.0), h.1)
 
-plain_by : (b : Bool) (c : ℕ) (cs : List ℕ) → blank c ≡ b → eqb c comment_mark ≡ false → All (All Plain) (words cs) → All (All Plain) (words (c ∷ cs))
+plain_by : (b : Bool) (c : ℕ) (cs : List ℕ) → blank c ≡ b → eqb c comment_mark ≡ false → AllByRecursion (AllByRecursion Plain) (words cs) → AllByRecursion (AllByRecursion Plain) (words (c ∷ cs))
 plain_by true c cs e m h = rw e h
 plain_by false c cs e m h = rw e (joined_plain (begins cs) c (words cs) (e, m) h)
 
-words_plain : (bs : List ℕ) → Unmarked bs → All (All Plain) (words bs)
+words_plain : (bs : List ℕ) → Unmarked bs → AllByRecursion (AllByRecursion Plain) (words bs)
 words_plain [] h = tt
 words_plain (c ∷ cs) h = plain_by (blank c) c cs refl h.0 (words_plain cs h.1)
 
-pub line_plain : (line : List ℕ) → All (All Plain) (words (uncommented line))
+pub line_plain : (line : List ℕ) → AllByRecursion (AllByRecursion Plain) (words (uncommented line))
 line_plain line = words_plain (uncommented line) (unmarked line)
