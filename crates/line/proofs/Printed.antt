@@ -4,7 +4,7 @@ use Rattle.std.specs.Char.{encode_utf8}
 use Rattle.std.proofs.ByRecursion.{IsAscii-from_all, All-from_get_or, All-weaker}
 use Rattle.std.proofs.lemmas.Str.Parse.{tells_all_ascii_digits}
 use Rattle.std.proofs.lemmas.Bool.{and_from, and_parts, lt-ltb, ltb-true}
-use Rattle.std.proofs.lemmas.Str.{inside_one, length-encode, IsUtf8-append, IsUtf8-encode, IsUtf8-from_ascii, is_utf8-from_IsUtf8, len_utf8_bounds}
+use Rattle.std.proofs.lemmas.Str.{inside_one, length-encode, IsUtf8-append, IsUtf8-encode, IsUtf8-from_ascii, IsUtf8-from_is_utf8, is_utf8-from_IsUtf8, len_utf8_bounds}
 use Rattle.std.proofs.lemmas.Bool.Decides.{nat_tests}
 use Rattle.std.specs.Int.{IsInRange}
 use Rattle.std.specs.List.{AllByRecursion}
@@ -13,12 +13,12 @@ use Rattle.line.specs.declared.calls.Call.{Call}
 use Rattle.line.specs.declared.calls.Call.TheVariants.{Enter, Strike, Set, Blank, Mode, Clear, Show}
 use Rattle.line.specs.Limits.{number_limit}
 use Rattle.line.specs.Words.{comment_mark, space, uncommented, words}
-use Rattle.line.specs.Reading.{read_of}
+use Rattle.line.specs.Calls.{call_of}
 use Rattle.line.specs.Spelling.{Spells}
 use Rattle.line.specs.Texts.{share_text, call_words, spaced, call_text, Writable, Letter, Printable}
 use Rattle.line.proofs.Splits.{Plain}
 use Rattle.line.proofs.Numerals.{decimal_numeral, text_share}
-use Rattle.line.proofs.Spelled.{spells_call}
+use Rattle.line.proofs.Spelled.{spells_call, call_printable}
 
 -- a text that is one word
 record IsWord (w : List ℕ) : Type 0 where
@@ -127,7 +127,12 @@ call_spelled (Mode letter) h = (encode_utf8 letter, refl, (h.0, refl))
 call_spelled Clear h = refl
 call_spelled (Show place) h = (decimal place, refl, decimal_numeral place h)
 
-pub read_back : (c : Call) → Printable c → read_of (call_text c) ≡ Ok (Some c)
-read_back c h =
-    let k = call_word c h in
-    rw (is_utf8-from_IsUtf8 (call_text c) (text_spaced (call_words c) k), uncommented_spaced (call_words c) k, words_spaced (call_words c) k) (spells_call (call_words c) c (call_spelled c h))
+-- so what is printed is text, and makes the call
+pub text_back : (c : Call) → Printable c → IsUtf8 (call_text c)
+text_back c h = text_spaced (call_words c) (call_word c h)
+
+pub call_back : (c : Call) → Printable c → call_of (words (uncommented (call_text c))) ≡ Ok (Some c)
+call_back c h = rw (uncommented_spaced (call_words c) (call_word c h), words_spaced (call_words c) (call_word c h)) (spells_call (call_words c) c (call_spelled c h))
+
+-- what is known of a line that is read
+pub ruleset reading = (IsUtf8-from_is_utf8, is_utf8-from_IsUtf8, call_printable, text_back)

@@ -1,20 +1,18 @@
 -- A call is read from the words that spell it, and from no others.
-use Rattle.std.proofs.Common.{◌≡◌, ℕ, ◌<◌, ◌≤◌, Bool, true, false, List, [], ◌∷◌, Some, None, Ok, Err, codes, Option, Result, IsUtf8, Decides, refl, subst, ⊎_elim, arith}
+use Rattle.std.proofs.Common.{◌≡◌, ℕ, ◌<◌, ◌≤◌, true, List, [], ◌∷◌, Some, None, Ok, Err, codes, Option, Result, refl, subst, ⊎_elim, arith}
 use Rattle.std.specs.Char.{encode_utf8, IsScalar}
 use Rattle.std.proofs.lemmas.Slice.Eq.{bytes_eq-Decides}
 use Rattle.std.proofs.lemmas.Bool.{cases_lt, cond_both}
-use Rattle.std.proofs.lemmas.Str.{encode_ascii, IsUtf8-encode, IsUtf8-from_is_utf8, is_utf8-from_IsUtf8}
+use Rattle.std.proofs.lemmas.Str.{encode_ascii, IsUtf8-encode}
 use Rattle.std.proofs.lemmas.Bool.Decides.{nat_tests}
 use Rattle.std.specs.List.{AllByRecursion}
-use Rattle.std.specs.Str.{bytes_eq, is_utf8}
+use Rattle.std.specs.Str.{bytes_eq}
 use Rattle.line.specs.declared.calls.Call.{Call}
 use Rattle.line.specs.declared.calls.Call.TheVariants.{Enter, Strike, Set, Blank, Mode, Clear, Show}
 use Rattle.line.specs.declared.calls.NotCall.{NotCall}
-use Rattle.line.specs.declared.calls.NotCall.TheVariants.{NotText}
 use Rattle.line.specs.Words.{uncommented, words}
 use Rattle.line.specs.Values.{letter_of, number_of, share_of}
 use Rattle.line.specs.Calls.{with_rest, first_as, and_then, end_of, enter_of, strike_of, set_of, blank_of, mode_of, show_of, named_of, made_call, call_of}
-use Rattle.line.specs.Reading.{read_of}
 use Rattle.line.specs.Spelling.{ShareWord, LetterWord, Spells}
 use Rattle.line.specs.Texts.{Writable, Letter, Printable}
 use Rattle.line.proofs.Splits.{Plain, line_plain}
@@ -122,34 +120,9 @@ made_by : (name : List ℕ) (ws : List (List ℕ)) (c : Call) (r : Result Call N
 made_by name ws c (Ok k) e h = named_spells name ws c (cc)
 made_by name ws c (Err n) e h = absurd (cc)
 
-call_spells : (ws : List (List ℕ)) (c : Call) → call_of ws ≡ Ok (Some c) → Spells ws c
+pub call_spells : (ws : List (List ℕ)) (c : Call) → call_of ws ≡ Ok (Some c) → Spells ws c
 call_spells [] c h = absurd (cc)
 call_spells (name ∷ ws) c h = made_by name ws c (named_of name ws) refl h
-
--- a line is text, or is told to be none
-pub text_decides : (line : List ℕ) → Decides (is_utf8 line) (IsUtf8 line)
-text_decides line = (IsUtf8-from_is_utf8 line, is_utf8-from_IsUtf8 line)
-
-not_text_by : (b : Bool) (line : List ℕ) → is_utf8 line ≡ b → ¬ (IsUtf8 line) → Err NotText ≡ read_of line
-not_text_by true line e h = absurd (h (IsUtf8-from_is_utf8 line e))
-not_text_by false line e h = rw e refl
-
-pub read_not_text : (line : List ℕ) → ¬ (IsUtf8 line) → Err NotText ≡ read_of line
-read_not_text line h = not_text_by (is_utf8 line) line refl h
-
-pub read_text : (line : List ℕ) → IsUtf8 line → call_of (words (uncommented line)) ≡ read_of line
-read_text line u = rw (is_utf8-from_IsUtf8 line u) refl
-
--- both ways for a whole line
-accepted_by : (b : Bool) (line : List ℕ) (c : Call) → is_utf8 line ≡ b → read_of line ≡ Ok (Some c) → (is_utf8 line ≡ true) × Spells (words (uncommented line)) c
-accepted_by true line c e h = (e, call_spells (words (uncommented line)) c (rw e at h))
-accepted_by false line c e h = let k = rw e at h in absurd (cc)
-
-pub read_accepted : (line : List ℕ) (c : Call) → read_of line ≡ Ok (Some c) → (is_utf8 line ≡ true) × Spells (words (uncommented line)) c
-read_accepted line c h = accepted_by (is_utf8 line) line c refl h
-
-pub read_spelled : (line : List ℕ) (c : Call) → is_utf8 line ≡ true → Spells (words (uncommented line)) c → read_of line ≡ Ok (Some c)
-read_spelled line c e h = rw e (spells_call (words (uncommented line)) c h)
 
 -- a call that was read can be printed
 share_writable : (w : List ℕ) (s : Option ℕ) → ShareWord w s → Writable s
@@ -171,5 +144,5 @@ spelled_printable ws (Mode letter) a h = let p = rw h.1 at a in plain_letter let
 spelled_printable ws Clear a h = tt
 spelled_printable ws (Show place) a h = h.2.below
 
-pub read_printable : (line : List ℕ) (c : Call) → read_of line ≡ Ok (Some c) → Printable c
-read_printable line c h = spelled_printable (words (uncommented line)) c (line_plain line) (read_accepted line c h).1
+pub call_printable : (line : List ℕ) (c : Call) → call_of (words (uncommented line)) ≡ Ok (Some c) → Printable c
+call_printable line c h = spelled_printable (words (uncommented line)) c (line_plain line) (call_spells (words (uncommented line)) c h)

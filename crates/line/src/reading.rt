@@ -54,16 +54,18 @@ fn named(name: &str, words: &mut Words<'_>) -> Result<Call, NotCall>
     }
 }
 
-// The call that the words make, or none where there are no words.
-fn call(words: &mut Words<'_>) -> Result<Option<Call>, NotCall>
-    ensures { result ≡ call_of words.old }
+// The call that the words of a text make, or none where it has no words.
+fn call(text: &str) -> Result<Option<Call>, NotCall>
+    ensures { result ≡ call_of (words (uncommented text.now)) }
 {
-    words.next().map(|name| named(name, words)).transpose()
+    let mut words = Words::of_line(text);
+    words.next().map(|name| named(name, &mut words)).transpose()
 }
 
 // The call that a line makes, none where the line is blank, or why the line is no call.
 // A line of text is read as a call just where the words before its comment spell that call: `accepted` and `spelled`.
 // `value` says which reason is told of a line that is no call. A call that was read can be printed, and is then read again.
+#[tactic(auto, using(crate::proofs::Printed::reading))]
 pub fn read(line: &[u8]) -> Result<Option<Call>, NotCall>
     ensures value { result ≡ read_of line.now }
     ensures text { Decides (is_utf8 line.now) (IsUtf8 line.now) }
@@ -72,6 +74,6 @@ pub fn read(line: &[u8]) -> Result<Option<Call>, NotCall>
     ensures printable { (c : Call) → result ≡ Ok (Some c) → Printable c }
     ensures back { (c : Call) → Printable c → line.now ≡ call_text c → result ≡ Ok (Some c) }
 {
-    let line = std::str::from_utf8(line).map_err(|_| NotCall::NotText)?;
-    call(&mut Words::of_line(line))
+    let text = std::str::from_utf8(line).map_err(|_| NotCall::NotText)?;
+    call(text)
 }
