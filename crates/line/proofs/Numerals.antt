@@ -1,12 +1,11 @@
 -- What a word of digits writes, and what `parse` reads of it.
-use Rattle.std.proofs.Common.{◌≡◌, ℕ, ◌^◌, ◌<◌, Bool, true, false, cond, ◌&&◌, eqb, ltb, List, [], ◌∷◌, length, Some, None, Ok, Err, codes, IsUtf8, decimal, Option, Result, MatchResult, sym, refl, ⊎_elim, arith}
+use Rattle.std.proofs.Common.{◌≡◌, ℕ, ◌^◌, ◌<◌, Bool, true, false, cond, ◌&&◌, eqb, ltb, List, [], ◌∷◌, length, Some, None, Ok, Err, codes, decimal, Option, Result, MatchResult, sym, refl, ⊎_elim, arith}
 use Rattle.std.proofs.lemmas.Slice.Eq.{bytes_eq-Decides}
 use Rattle.std.proofs.lemmas.Str.Parse.{IsNumeralModel, numerals_by_value, tells_all_ascii_digits, parse_digits}
-use Rattle.std.proofs.lemmas.Fmt.{IsAscii-from_digits, digits_decimal, digits_value-decimal, decimal_nonempty}
+use Rattle.std.proofs.lemmas.Fmt.{digits_decimal, digits_value-decimal, decimal_nonempty}
 use Rattle.std.proofs.lemmas.Bool.{and_from, and_parts, cases_lt, lt-ltb, le-ltb, ltb-true}
 use Rattle.std.proofs.Math.Bool.{and-true}
 use Rattle.std.proofs.lemmas.List.Recursion.{same_from_clauses}
-use Rattle.std.proofs.lemmas.Str.{IsUtf8-from_ascii}
 use Rattle.std.specs.Char.{is_ascii_digit}
 use Rattle.std.specs.List.{list_all}
 use Rattle.std.proofs.lemmas.Bool.Decides.{nat_tests}
@@ -33,10 +32,6 @@ digits_all w l =
 pub not_numeral : (w : List ℕ) → is_numeral w ≡ false → Err NotNumber ≡ number_of w
 unfolding number_of
 not_numeral w e = rw e refl
-
--- digits are text
-pub numeral_text : (w : List ℕ) → is_numeral w ≡ true → IsUtf8 w
-numeral_text w e = IsUtf8-from_ascii w (IsAscii-from_digits w (own.to w (and_parts (all_ascii_digits w) _ e).0))
 
 -- what `parse` answers at a numeral is its number, unless that is too large
 converted : {E : Type 0} (w : List ℕ) (r : Result ℕ E) (q : Result ℕ NotCall) → is_numeral w ≡ true → 0 < length w → OkIff r ((0 < length w) × (digits_value 10 w < 2 ^ 32)) (digits_value 10 w) → MatchResult r (λ n. q ≡ Ok n) (λ _. q ≡ Err NumberTooLarge) → q ≡ number_of w

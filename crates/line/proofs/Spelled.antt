@@ -1,5 +1,5 @@
 -- A call is read from the words that spell it, and from no others.
-use Rattle.std.proofs.Common.{◌≡◌, ℕ, ◌<◌, ◌≤◌, true, List, [], ◌∷◌, Some, None, Ok, Err, codes, Option, Result, refl, subst, ⊎_elim, arith}
+use Rattle.std.proofs.Common.{◌≡◌, ℕ, ◌<◌, ◌≤◌, true, List, [], ◌∷◌, Some, None, Ok, Err, codes, Option, Result, refl, ⊎_elim, arith}
 use Rattle.std.specs.Char.{encode_utf8, IsScalar}
 use Rattle.std.proofs.lemmas.Slice.Eq.{bytes_eq-Decides}
 use Rattle.std.proofs.lemmas.Bool.{cases_lt, cond_both}
@@ -55,9 +55,6 @@ ended k [] c h = (refl, cc)
 ended k (w ∷ ws) c h = absurd (cc)
 
 -- so the words of each kind of call spell it
-same_call : (ws : List (List ℕ)) (k c : Call) → k ≡ c → Spells ws k → Spells ws c
-same_call ws k c e h = let P : Call → Type 0 = λ x. Spells ws x in subst P e h
-
 enter_spells : (name : List ℕ) (ws : List (List ℕ)) (c : Call) → name ≡ codes "enter" → enter_of ws ≡ Ok c → Spells (name ∷ ws) c
 enter_spells name ws c n e =
     let p = taken number_of ws _ c e in
@@ -65,13 +62,13 @@ enter_spells name ws c n e =
     let s = taken share_of r.rest _ c r.after in
     let d = taken share_of s.rest _ c s.after in
     let z = ended (Enter p.part r.part s.part d.part) d.rest c d.after in
-    same_call (name ∷ ws) (Enter p.part r.part s.part d.part) c z.1 (p.word, r.word, s.word, d.word, (cc), number_numeral p.word p.part p.reads, number_numeral r.word r.part r.reads, share_word s.word s.part s.reads, share_word d.word d.part d.reads)
+    rw (← z.1) (p.word, r.word, s.word, d.word, (cc), number_numeral p.word p.part p.reads, number_numeral r.word r.part r.reads, share_word s.word s.part s.reads, share_word d.word d.part d.reads)
 
 strike_spells : (name : List ℕ) (ws : List (List ℕ)) (c : Call) → name ≡ codes "strike" → strike_of ws ≡ Ok c → Spells (name ∷ ws) c
 strike_spells name ws c n e =
     let p = taken number_of ws _ c e in
     let z = ended (Strike p.part) p.rest c p.after in
-    same_call (name ∷ ws) (Strike p.part) c z.1 (p.word, (cc), number_numeral p.word p.part p.reads)
+    rw (← z.1) (p.word, (cc), number_numeral p.word p.part p.reads)
 
 set_spells : (name : List ℕ) (ws : List (List ℕ)) (c : Call) → name ≡ codes "set" → set_of ws ≡ Ok c → Spells (name ∷ ws) c
 set_spells name ws c n e =
@@ -79,29 +76,29 @@ set_spells name ws c n e =
     let f = taken number_of p.rest _ c p.after in
     let v = taken number_of f.rest _ c f.after in
     let z = ended (Set p.part f.part v.part) v.rest c v.after in
-    same_call (name ∷ ws) (Set p.part f.part v.part) c z.1 (p.word, f.word, v.word, (cc), number_numeral p.word p.part p.reads, number_numeral f.word f.part f.reads, number_numeral v.word v.part v.reads)
+    rw (← z.1) (p.word, f.word, v.word, (cc), number_numeral p.word p.part p.reads, number_numeral f.word f.part f.reads, number_numeral v.word v.part v.reads)
 
 blank_spells : (name : List ℕ) (ws : List (List ℕ)) (c : Call) → name ≡ codes "blank" → blank_of ws ≡ Ok c → Spells (name ∷ ws) c
 blank_spells name ws c n e =
     let p = taken number_of ws _ c e in
     let f = taken number_of p.rest _ c p.after in
     let z = ended (Blank p.part f.part) f.rest c f.after in
-    same_call (name ∷ ws) (Blank p.part f.part) c z.1 (p.word, f.word, (cc), number_numeral p.word p.part p.reads, number_numeral f.word f.part f.reads)
+    rw (← z.1) (p.word, f.word, (cc), number_numeral p.word p.part p.reads, number_numeral f.word f.part f.reads)
 
 mode_spells : (name : List ℕ) (ws : List (List ℕ)) (c : Call) → name ≡ codes "mode" → mode_of ws ≡ Ok c → Spells (name ∷ ws) c
 mode_spells name ws c n e =
     let p = taken letter_of ws _ c e in
     let z = ended (Mode p.part) p.rest c p.after in
-    same_call (name ∷ ws) (Mode p.part) c z.1 (p.word, (cc), letter_word p.word p.part p.reads)
+    rw (← z.1) (p.word, (cc), letter_word p.word p.part p.reads)
 
 clear_spells : (name : List ℕ) (ws : List (List ℕ)) (c : Call) → name ≡ codes "clear" → end_of Clear ws ≡ Ok c → Spells (name ∷ ws) c
-clear_spells name ws c n e = let z = ended Clear ws c e in same_call (name ∷ ws) Clear c z.1 (cc)
+clear_spells name ws c n e = let z = ended Clear ws c e in rw (← z.1) (cc)
 
 show_spells : (name : List ℕ) (ws : List (List ℕ)) (c : Call) → name ≡ codes "show" → show_of ws ≡ Ok c → Spells (name ∷ ws) c
 show_spells name ws c n e =
     let p = taken number_of ws _ c e in
     let z = ended (Show p.part) p.rest c p.after in
-    same_call (name ∷ ws) (Show p.part) c z.1 (p.word, (cc), number_numeral p.word p.part p.reads)
+    rw (← z.1) (p.word, (cc), number_numeral p.word p.part p.reads)
 
 named_spells : (name : List ℕ) (ws : List (List ℕ)) (c : Call) → named_of name ws ≡ Ok c → Spells (name ∷ ws) c
 named_spells name ws c =

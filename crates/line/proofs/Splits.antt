@@ -1,7 +1,9 @@
 -- How the words of a text come from its runs of blanks and of other bytes.
-use Rattle.std.proofs.Common.{◌≡◌, ℕ, ◌<◌, ◌≤◌, Bool, true, false, not, eqb, ltb, List, [], ◌∷◌, length, take, drop, Some, None, refl, ⊎_elim, ◌∙◌, one-add, arith, length-drop}
-use Rattle.std.proofs.lemmas.Bool.{cases_lt, lt-ltb, le-ltb, ltb-true}
+use Rattle.std.proofs.Common.{◌≡◌, ℕ, ◌<◌, ◌≤◌, Bool, true, false, not, eqb, ltb, List, [], ◌∷◌, length, take, drop, Some, None, refl, ⊎_elim, ◌∙◌, ap, suc, get_or, one-add, arith, drop-cons}
+use Rattle.std.proofs.lemmas.Bool.{cases_lt, lt-ltb, le-ltb, not-true}
 use Rattle.std.proofs.lemmas.List.Sums.{prefix_len-le-length}
+use Rattle.std.proofs.lemmas.List.{drop_all}
+use Rattle.std.proofs.lemmas.List.Quantifiers.{position-Some}
 use Rattle.std.proofs.lemmas.Option.{cond_some}
 use Rattle.std.specs.List.{position, position_or_len, AllByRecursion}
 use Rattle.std.specs.Option.{unwrap_or}
@@ -47,40 +49,23 @@ joins : (c : ℕ) (cs : List ℕ) → Joins c cs
 joins c [] = refl
 joins c (d ∷ ds) = joins_by (blank d) c d ds refl (joins d ds)
 
-cut_by : (b : Bool) (c : ℕ) (cs : List ℕ) → blank c ≡ b → 0 < run (c ∷ cs) → words (c ∷ cs) ≡ take (run (c ∷ cs)) (c ∷ cs) ∷ words (drop (run (c ∷ cs)) (c ∷ cs))
-cut_by true c cs e h = absurd (let k : 0 < 0 = rw e at h in omega arith)
-cut_by false c cs e h = rw (e, one-add) (joins c cs)
-
-words_cut : (bs : List ℕ) → 0 < run bs → words bs ≡ take (run bs) bs ∷ words (drop (run bs) bs)
-words_cut [] h = absurd (omega arith)
-words_cut (c ∷ cs) h = cut_by (blank c) c cs refl h
-
--- after the blanks a word begins, unless the text ends
-begun_by : (b : Bool) (c : ℕ) (cs : List ℕ) → blank c ≡ b → (0 < length (trimmed cs) → 0 < run (trimmed cs)) → 0 < length (trimmed (c ∷ cs)) → 0 < run (trimmed (c ∷ cs))
-begun_by true c cs e h k = rw (e, one-add) (h (rw (e, one-add) at k))
-begun_by false c cs e h k = rw (e, e) (omega arith)
-
-begun : (bs : List ℕ) → 0 < length (trimmed bs) → 0 < run (trimmed bs)
-begun [] h = h
-begun (c ∷ cs) h = begun_by (blank c) c cs refl (begun cs) h
-
-no_words : (bs : List ℕ) → length bs ≤ 0 → words bs ≡ []
-no_words [] h = refl
-no_words (c ∷ cs) h = absurd (omega arith)
+words_cut : (c : ℕ) (cs : List ℕ) → blank c ≡ false → words (c ∷ cs) ≡ take (run (c ∷ cs)) (c ∷ cs) ∷ words (drop (run (c ∷ cs)) (c ∷ cs))
+words_cut c cs e = rw (e, one-add) (joins c cs)
 
 -- where no byte of a word stands there is no word, and else a word begins with the first
 pub words_none : (bs : List ℕ) → position (λ c. not (blank c)) bs ≡ None → words bs ≡ []
 words_none bs e =
     ⊎_elim
     (λ (l : blanks bs < length bs). absurd (let k = rw (lt-ltb (blanks bs) (length bs) l) at e in cc))
-    (λ (l : length bs ≤ blanks bs). words_trimmed bs ∙ no_words (trimmed bs) (omega (arith, length-drop (blanks bs) bs)))
+    (λ (l : length bs ≤ blanks bs). words_trimmed bs ∙ ap words (drop_all (blanks bs) bs l))
     (cases_lt (blanks bs) (length bs))
 
 pub words_some : (bs : List ℕ) (n : ℕ) → position (λ c. not (blank c)) bs ≡ Some n → words bs ≡ take (run (drop n bs)) (drop n bs) ∷ words (drop (run (drop n bs)) (drop n bs))
 words_some bs n e =
-    let k : (ltb (blanks bs) (length bs) ≡ true) × (blanks bs ≡ n) = cond_some (ltb (blanks bs) (length bs)) (blanks bs) n e in
-    let l : 0 < length (trimmed bs) = omega (arith, ltb-true (blanks bs) (length bs) k.0, length-drop (blanks bs) bs) in
-    rw (← k.1) (words_trimmed bs ∙ words_cut (trimmed bs) (begun bs l))
+    let k = position-Some (λ c. not (blank c)) bs n 0 e in
+    let b : blank (get_or bs n 0) ≡ false = not-true _ k.1 in
+    let s = cond_some (ltb (blanks bs) (length bs)) (blanks bs) n e in
+    words_trimmed bs ∙ rw (s.1, drop-cons bs n 0 k.0) (words_cut (get_or bs n 0) (drop (suc n) bs) b)
 
 -- a byte of a word: no blank and no comment mark
 abbrev pub Plain : ℕ → Type 0

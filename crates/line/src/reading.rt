@@ -1,5 +1,5 @@
 // The call that a line makes, read word by word from the left: the first word that is wrong decides.
-ghost use Rattle.line.specs.Calls.{blank_of, call_of, end_of, enter_of, first_as, mode_of, named_of, set_of, show_of, strike_of, with_rest};
+ghost use Rattle.line.specs.Calls.{call_of, first_as, named_of, with_rest};
 ghost use Rattle.line.specs.Reading.{read_of};
 ghost use Rattle.line.specs.Spelling.{Spells};
 ghost use Rattle.line.specs.Texts.{Printable, call_text};
