@@ -35,14 +35,6 @@ unfolding letter_of
 letter_word w c h = letter_by (is_utf8 w) w c refl h
 
 -- what is read of the word is what it writes
-no_text : (b : Bool) (w : List ℕ) → is_utf8 w ≡ b → ¬ (IsUtf8 w) → Err NotLetter ≡ cond b (only (chars w)) (Err NotLetter)
-no_text true w e h = absurd (h (IsUtf8-from_is_utf8 w e))
-no_text false w e h = refl
-
-pub letter_no_text : (w : List ℕ) → ¬ (IsUtf8 w) → Err NotLetter ≡ letter_of w
-unfolding letter_of
-letter_no_text w h = no_text (is_utf8 w) w refl h
-
 no_only : (w cs : List ℕ) → all_scalars cs ≡ true → encode_utf8_all cs ≡ w → ((c : ℕ) → IsScalar c → w ≢ encode_utf8 c) → Err NotLetter ≡ only cs
 no_only w [] s e h = refl
 no_only w (d ∷ []) s e h = absurd (h d (and_parts _ _ s).0 (sym e ∙ append-nil (encode_utf8 d)))

@@ -1,5 +1,5 @@
 -- The first character of a text that passes a test, as its first byte that does.
-use Rattle.std.proofs.Common.{◌≡◌, ℕ, ◌<◌, ◌≤◌, Bool, true, false, List, [], ◌∷◌, length, get_or, take, drop, Some, None, Option, MatchOption, sym, refl, ap, ◌∙◌, ⊎_elim, arith, add-zero, length-append, length-drop, length-take-le}
+use Rattle.std.proofs.Common.{◌≡◌, ℕ, ◌<◌, ◌≤◌, Bool, true, false, List, [], ◌∷◌, ◌++◌, length, get_or, take, drop, Some, None, Option, MatchOption, sym, refl, ap, ◌∙◌, ⊎_elim, arith, add-zero, length-append, length-drop, length-take-le}
 use Rattle.std.proofs.ByRecursion.{IsAscii-from_all}
 use Rattle.std.proofs.lemmas.Bool.{cases_lt, lt-ltb, le-ltb}
 use Rattle.std.proofs.lemmas.List.{get_or-take, get_or-drop}
@@ -33,24 +33,25 @@ no_byte p false e bs h k l = ⊎_elim (λ (s : get_or bs k 0 < 128). NoCharPasse
 no_byte p true e bs h k l = NoCharPasses-byte p bs k h l (ascii_text p e bs h k)
 
 -- and the first byte of a character passes where the character does
+high_byte : (bs : List ℕ) (i j c : ℕ) → drop i bs ≡ encode_utf8 c ++ drop j bs → 0 < length (encode_utf8 c) → 128 ≤ c → 128 ≤ get_or bs i 0
+high_byte bs i j c h n s =
+    let g : get_or (drop i bs) 0 0 ≡ get_or bs i 0 = rw add-zero at (get_or-drop i bs 0 0) in
+    ⊎_elim
+    (λ (l : get_or (drop i bs) 0 0 < 128). absurd (omega (arith, inside_one c (drop j bs) (drop i bs) 0 h n l)))
+    (λ (l : 128 ≤ get_or (drop i bs) 0 0). omega arith)
+    (cases_lt (get_or (drop i bs) 0 0) 128)
+
 one_byte : (p : ℕ → Bool) (b : Bool) → AnswersPast p b → (bs : List ℕ) (i j : ℕ) → HasPassingCharAt p bs i j → (i < length bs) × (p (get_or bs i 0) ≡ true)
 one_byte p b e bs i j h =
     let c : ℕ = h.0 in
     let n : 0 < length (encode_utf8 c) = rw length-encode (omega (arith, len_utf8_bounds c)) in
-    let l : i < length bs = omega (arith, ap length h.2.split, length-append (encode_utf8 c) (drop j bs), length-drop i bs) in (
-      l,
-      ⊎_elim
-          (λ (s : c < 128). rw (h.2.byte s) h.1)
-          (λ (s : 128 ≤ c).
-          let g : get_or (drop i bs) 0 0 ≡ get_or bs i 0 = rw add-zero at (get_or-drop i bs 0 0) in
-          let t : 128 ≤ get_or bs i 0 =
-          ⊎_elim
-          (λ (a : get_or (drop i bs) 0 0 < 128). absurd (omega (arith, inside_one c (drop j bs) (drop i bs) 0 h.2.split n a)))
-          (λ (a : 128 ≤ get_or (drop i bs) 0 0). omega arith)
-          (cases_lt (get_or (drop i bs) 0 0) 128) in
-          e (get_or bs i 0) t ∙ (sym (e c s) ∙ h.1))
-          (cases_lt c 128),
-    )
+    let l : i < length bs = omega (arith, ap length h.2.split, length-append (encode_utf8 c) (drop j bs), length-drop i bs) in
+    let t : p (get_or bs i 0) ≡ true =
+    ⊎_elim
+    (λ (s : c < 128). rw (h.2.byte s) h.1)
+    (λ (s : 128 ≤ c). e (get_or bs i 0) (high_byte bs i j c h.2.split n s) ∙ (sym (e c s) ∙ h.1))
+    (cases_lt c 128) in
+    (l, t)
 
 -- so a search for a character finds where the first byte passes
 pub found : {F : Type 0} {g : Mut F (ℕ × Unit {0}) Bool} {f : F} (p : ℕ → Bool) (b : Bool) → AnswersPast p b → (bs : List ℕ) (r : Option ℕ) → MatchOption r ((k : ℕ → Bool) → AlwaysReturns g (λ a x. x ≡ k a.0) f → NoCharPasses k bs) (MatchBeginsAt (λ s o. (k : ℕ → Bool) → AlwaysReturns g (λ a x. x ≡ k a.0) f → FindsBy k s o) bs) → ((a : ℕ × Unit {0}) (x : Bool) (q : F) → Called g f a x q → (x ≡ p a.0) × (q ≡ f)) → r ≡ position p bs

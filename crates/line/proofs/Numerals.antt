@@ -1,12 +1,11 @@
 -- What a word of digits writes, and what `parse` reads of it.
-use Rattle.std.proofs.Common.{◌≡◌, ℕ, ◌^◌, ◌<◌, Bool, true, false, cond, ◌&&◌, eqb, ltb, List, [], ◌∷◌, length, Some, None, Ok, Err, codes, IsUtf8, decimal, Option, Result, MatchResult, sym, refl, ⊎_elim, arith}
+use Rattle.std.proofs.Common.{◌≡◌, ℕ, ◌^◌, ◌<◌, Bool, true, false, cond, ◌&&◌, eqb, ltb, List, [], ◌∷◌, length, Some, None, Ok, Err, codes, decimal, Option, Result, MatchResult, sym, refl, ⊎_elim, arith}
 use Rattle.std.proofs.lemmas.Slice.Eq.{bytes_eq-Decides}
 use Rattle.std.proofs.lemmas.Str.Parse.{IsNumeralModel, numerals_by_value, tells_all_ascii_digits, parse_digits}
-use Rattle.std.proofs.lemmas.Fmt.{IsAscii-from_digits, digits_decimal, digits_value-decimal, decimal_nonempty}
+use Rattle.std.proofs.lemmas.Fmt.{digits_decimal, digits_value-decimal, decimal_nonempty}
 use Rattle.std.proofs.lemmas.Bool.{and_from, and_parts, cases_lt, lt-ltb, le-ltb, ltb-true}
 use Rattle.std.proofs.Math.Bool.{and-true}
 use Rattle.std.proofs.lemmas.List.Recursion.{same_from_clauses}
-use Rattle.std.proofs.lemmas.Str.{IsUtf8-from_ascii}
 use Rattle.std.specs.Char.{is_ascii_digit}
 use Rattle.std.specs.List.{list_all}
 use Rattle.std.proofs.lemmas.Bool.Decides.{nat_tests}
@@ -34,10 +33,6 @@ pub not_numeral : (w : List ℕ) → is_numeral w ≡ false → Err NotNumber �
 unfolding number_of
 not_numeral w e = rw e refl
 
--- digits are text
-pub numeral_text : (w : List ℕ) → is_numeral w ≡ true → IsUtf8 w
-numeral_text w e = IsUtf8-from_ascii w (IsAscii-from_digits w (own.to w (and_parts (all_ascii_digits w) _ e).0))
-
 -- what `parse` answers at a numeral is its number, unless that is too large
 converted : {E : Type 0} (w : List ℕ) (r : Result ℕ E) (q : Result ℕ NotCall) → is_numeral w ≡ true → 0 < length w → OkIff r ((0 < length w) × (digits_value 10 w < 2 ^ 32)) (digits_value 10 w) → MatchResult r (λ n. q ≡ Ok n) (λ _. q ≡ Err NumberTooLarge) → q ≡ number_of w
 unfolding number_of
@@ -61,8 +56,8 @@ numeral_by true true w n e l h =
     let p = and_parts (all_ascii_digits w) _ e in
     let v : digits_value 10 w ≡ n = cc in
     record { digits = p.0; some = ltb-true 0 (length w) p.1; writes = v; below = rw v at (ltb-true (digits_value 10 w) number_limit l) }
-numeral_by true false w n e l h = let z : ◌≡◌ {A = ℕ} 0 1 = cc in absurd (omega arith)
-numeral_by false b w n e l h = let z : ◌≡◌ {A = ℕ} 0 1 = cc in absurd (omega arith)
+numeral_by true false w n e l h = absurd (cc)
+numeral_by false b w n e l h = absurd (cc)
 
 pub number_numeral : (w : List ℕ) (n : ℕ) → number_of w ≡ Ok n → Numeral w n
 unfolding number_of
@@ -79,10 +74,10 @@ word_share w (Some n) h = rw (not_blank_share w h.digits, numeral_number w n h) 
 
 share_by : (b : Bool) (r : Result ℕ NotCall) (w : List ℕ) (s : Option ℕ) → bytes_eq w (codes "-") ≡ b → number_of w ≡ r → cond b (Ok None) (given r) ≡ Ok s → ShareWord w s
 share_by true r w None e f h = (bytes_eq-Decides w (codes "-")).0 e
-share_by true r w (Some n) e f h = let z : ◌≡◌ {A = ℕ} 0 1 = cc in absurd (omega arith)
-share_by false (Ok m) w None e f h = let z : ◌≡◌ {A = ℕ} 0 1 = cc in absurd (omega arith)
+share_by true r w (Some n) e f h = absurd (cc)
+share_by false (Ok m) w None e f h = absurd (cc)
 share_by false (Ok m) w (Some n) e f h = number_numeral w n (cc)
-share_by false (Err x) w s e f h = let z : ◌≡◌ {A = ℕ} 0 1 = cc in absurd (omega arith)
+share_by false (Err x) w s e f h = absurd (cc)
 
 pub share_word : (w : List ℕ) (s : Option ℕ) → share_of w ≡ Ok s → ShareWord w s
 share_word w s h = share_by (bytes_eq w (codes "-")) (number_of w) w s refl refl h

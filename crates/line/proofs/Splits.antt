@@ -1,9 +1,11 @@
 -- How the words of a text come from its runs of blanks and of other bytes.
-use Rattle.std.proofs.Common.{◌≡◌, ℕ, ◌<◌, ◌≤◌, Bool, true, false, not, eqb, ltb, List, [], ◌∷◌, length, take, drop, Some, None, refl, ⊎_elim, ◌∙◌, one-add, arith, length-drop}
-use Rattle.std.proofs.lemmas.Bool.{cases_lt, lt-ltb, le-ltb, ltb-true}
+use Rattle.std.proofs.Common.{◌≡◌, ℕ, ◌<◌, ◌≤◌, Bool, true, false, not, eqb, ltb, List, [], ◌∷◌, length, take, drop, Some, None, refl, ⊎_elim, ◌∙◌, ap, suc, get_or, one-add, arith, drop-cons}
+use Rattle.std.proofs.lemmas.Bool.{cases_lt, lt-ltb, le-ltb, not-true}
 use Rattle.std.proofs.lemmas.List.Sums.{prefix_len-le-length}
+use Rattle.std.proofs.lemmas.List.{drop_all}
+use Rattle.std.proofs.lemmas.List.Quantifiers.{position-Some}
 use Rattle.std.proofs.lemmas.Option.{cond_some}
-use Rattle.std.specs.List.{position, position_or_len, AllByRecursion as All}
+use Rattle.std.specs.List.{position, position_or_len, AllByRecursion}
 use Rattle.std.specs.Option.{unwrap_or}
 use Rattle.line.specs.Words.{blank, begins, comment_mark, joined, uncommented, words}
 
@@ -47,40 +49,23 @@ joins : (c : ℕ) (cs : List ℕ) → Joins c cs
 joins c [] = refl
 joins c (d ∷ ds) = joins_by (blank d) c d ds refl (joins d ds)
 
-cut_by : (b : Bool) (c : ℕ) (cs : List ℕ) → blank c ≡ b → 0 < run (c ∷ cs) → words (c ∷ cs) ≡ take (run (c ∷ cs)) (c ∷ cs) ∷ words (drop (run (c ∷ cs)) (c ∷ cs))
-cut_by true c cs e h = absurd (let k : 0 < 0 = rw e at h in omega arith)
-cut_by false c cs e h = rw (e, one-add) (joins c cs)
-
-words_cut : (bs : List ℕ) → 0 < run bs → words bs ≡ take (run bs) bs ∷ words (drop (run bs) bs)
-words_cut [] h = absurd (omega arith)
-words_cut (c ∷ cs) h = cut_by (blank c) c cs refl h
-
--- after the blanks a word begins, unless the text ends
-begun_by : (b : Bool) (c : ℕ) (cs : List ℕ) → blank c ≡ b → (0 < length (trimmed cs) → 0 < run (trimmed cs)) → 0 < length (trimmed (c ∷ cs)) → 0 < run (trimmed (c ∷ cs))
-begun_by true c cs e h k = rw (e, one-add) (h (rw (e, one-add) at k))
-begun_by false c cs e h k = rw (e, e) (omega arith)
-
-begun : (bs : List ℕ) → 0 < length (trimmed bs) → 0 < run (trimmed bs)
-begun [] h = h
-begun (c ∷ cs) h = begun_by (blank c) c cs refl (begun cs) h
-
-no_words : (bs : List ℕ) → length bs ≤ 0 → words bs ≡ []
-no_words [] h = refl
-no_words (c ∷ cs) h = absurd (omega arith)
+words_cut : (c : ℕ) (cs : List ℕ) → blank c ≡ false → words (c ∷ cs) ≡ take (run (c ∷ cs)) (c ∷ cs) ∷ words (drop (run (c ∷ cs)) (c ∷ cs))
+words_cut c cs e = rw (e, one-add) (joins c cs)
 
 -- where no byte of a word stands there is no word, and else a word begins with the first
 pub words_none : (bs : List ℕ) → position (λ c. not (blank c)) bs ≡ None → words bs ≡ []
 words_none bs e =
     ⊎_elim
     (λ (l : blanks bs < length bs). absurd (let k = rw (lt-ltb (blanks bs) (length bs) l) at e in cc))
-    (λ (l : length bs ≤ blanks bs). words_trimmed bs ∙ no_words (trimmed bs) (omega (arith, length-drop (blanks bs) bs)))
+    (λ (l : length bs ≤ blanks bs). words_trimmed bs ∙ ap words (drop_all (blanks bs) bs l))
     (cases_lt (blanks bs) (length bs))
 
 pub words_some : (bs : List ℕ) (n : ℕ) → position (λ c. not (blank c)) bs ≡ Some n → words bs ≡ take (run (drop n bs)) (drop n bs) ∷ words (drop (run (drop n bs)) (drop n bs))
 words_some bs n e =
-    let k : (ltb (blanks bs) (length bs) ≡ true) × (blanks bs ≡ n) = cond_some (ltb (blanks bs) (length bs)) (blanks bs) n e in
-    let l : 0 < length (trimmed bs) = omega (arith, ltb-true (blanks bs) (length bs) k.0, length-drop (blanks bs) bs) in
-    rw (← k.1) (words_trimmed bs ∙ words_cut (trimmed bs) (begun bs l))
+    let k = position-Some (λ c. not (blank c)) bs n 0 e in
+    let b : blank (get_or bs n 0) ≡ false = not-true _ k.1 in
+    let s = cond_some (ltb (blanks bs) (length bs)) (blanks bs) n e in
+    words_trimmed bs ∙ rw (s.1, drop-cons bs n 0 k.0) (words_cut (get_or bs n 0) (drop (suc n) bs) b)
 
 -- a byte of a word: no blank and no comment mark
 abbrev pub Plain : ℕ → Type 0
@@ -88,7 +73,7 @@ Plain c = (blank c ≡ false) × (eqb c comment_mark ≡ false)
 
 -- the words of a line before its comment have only such bytes
 abbrev Unmarked : List ℕ → Type 0
-Unmarked bs = All (λ c. eqb c comment_mark ≡ false) bs
+Unmarked bs = AllByRecursion (λ c. eqb c comment_mark ≡ false) bs
 
 unmarked_by : (b : Bool) (c : ℕ) (cs : List ℕ) → eqb c comment_mark ≡ b → Unmarked (uncommented cs) → Unmarked (uncommented (c ∷ cs))
 unmarked_by true c cs e h = rw e tt
@@ -98,18 +83,18 @@ unmarked : (bs : List ℕ) → Unmarked (uncommented bs)
 unmarked [] = tt
 unmarked (c ∷ cs) = unmarked_by (eqb c comment_mark) c cs refl (unmarked cs)
 
-joined_plain : (b : Bool) (c : ℕ) (ws : List (List ℕ)) → Plain c → All (All Plain) ws → All (All Plain) (joined b c ws)
+joined_plain : (b : Bool) (c : ℕ) (ws : List (List ℕ)) → Plain c → AllByRecursion (AllByRecursion Plain) ws → AllByRecursion (AllByRecursion Plain) (joined b c ws)
 joined_plain false c ws p h = ((p, tt), h)
 joined_plain true c [] p h = ((p, tt), tt)
 joined_plain true c (w ∷ ws) p h = ((p, h.0), h.1)
 
-plain_by : (b : Bool) (c : ℕ) (cs : List ℕ) → blank c ≡ b → eqb c comment_mark ≡ false → All (All Plain) (words cs) → All (All Plain) (words (c ∷ cs))
+plain_by : (b : Bool) (c : ℕ) (cs : List ℕ) → blank c ≡ b → eqb c comment_mark ≡ false → AllByRecursion (AllByRecursion Plain) (words cs) → AllByRecursion (AllByRecursion Plain) (words (c ∷ cs))
 plain_by true c cs e m h = rw e h
 plain_by false c cs e m h = rw e (joined_plain (begins cs) c (words cs) (e, m) h)
 
-words_plain : (bs : List ℕ) → Unmarked bs → All (All Plain) (words bs)
+words_plain : (bs : List ℕ) → Unmarked bs → AllByRecursion (AllByRecursion Plain) (words bs)
 words_plain [] h = tt
 words_plain (c ∷ cs) h = plain_by (blank c) c cs refl h.0 (words_plain cs h.1)
 
-pub line_plain : (line : List ℕ) → All (All Plain) (words (uncommented line))
+pub line_plain : (line : List ℕ) → AllByRecursion (AllByRecursion Plain) (words (uncommented line))
 line_plain line = words_plain (uncommented line) (unmarked line)

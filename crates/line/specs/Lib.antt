@@ -1,6 +1,5 @@
 pub mod Limits
 pub mod Words
-pub mod Helpers
 pub mod Values
 pub mod Calls
 pub mod Reading

@@ -1,6 +1,10 @@
 // The bytes of one line as they come in, in memory that is reserved once.
-mod methods;
+ghost use Rattle.std.specs.Prelude.{◌≡◌, [], IfOk, Some};
+ghost use Rattle.line.specs.Buffer.{extended, read_held};
 
+use crate::calls::{Call, NotCall};
+use crate::reading::read;
+use std::alloc::{AllocError, Global};
 use std::marker::Model;
 
 // The most bytes that a line may have.
@@ -23,4 +27,44 @@ impl Model for LineBuffer {
     ghost view = { λ b. cond b.overlong None (Some b.bytes.items) };
 
     ghost invariant = { λ b. (vec_len b.bytes ≤ line_limit) × (line_limit ≤ vec_capacity b.bytes) };
+}
+
+impl LineBuffer {
+    // An empty buffer, with room for the longest line.
+    pub fn new(heap: Global) -> Result<LineBuffer, AllocError>
+        ensures { IfOk result (λ b. b ≡ Some []) }
+    {
+        let bytes = Vec::with_capacity(heap, LINE_LIMIT)?;
+        Ok(LineBuffer {
+            bytes,
+            overlong: false,
+        })
+    }
+
+    // Adds the bytes of `part` to the line.
+    pub fn add(&mut self, part: &[u8])
+        ensures { self.new ≡ extended self.old part.now }
+    {
+        if part.len() <= LINE_LIMIT - self.bytes.len() {
+            // there is room, so that this neither allocates nor fails
+            let _ = self.bytes.extend_from_slice(part);
+        } else {
+            self.overlong = true;
+        }
+    }
+
+    // Reads the line so far, and empties the buffer for the next.
+    pub fn finish(&mut self) -> Result<Option<Call>, NotCall>
+        ensures answer { result ≡ read_held self.old }
+        ensures after { self.new ≡ Some [] }
+    {
+        let answer = if self.overlong {
+            Err(NotCall::TooLong)
+        } else {
+            read(&self.bytes)
+        };
+        self.bytes.clear();
+        self.overlong = false;
+        answer
+    }
 }

@@ -1,6 +1,5 @@
 // The call that a line makes, read word by word from the left: the first word that is wrong decides.
-ghost use Rattle.line.specs.Calls.{blank_of, call_of, end_of, enter_of, first_as, mode_of, named_of, set_of, show_of, strike_of};
-ghost use Rattle.line.specs.Helpers.{followed};
+ghost use Rattle.line.specs.Calls.{call_of, first_as, named_of, with_rest};
 ghost use Rattle.line.specs.Reading.{read_of};
 ghost use Rattle.line.specs.Spelling.{Spells};
 ghost use Rattle.line.specs.Texts.{Printable, call_text};
@@ -10,117 +9,63 @@ ghost use Rattle.std.specs.Str.{is_utf8};
 
 use crate::calls::{Call, NotCall};
 use crate::values::FromWord;
-use crate::words::{before_comment, first_word};
+use crate::words::Words;
 
-// The value that the first word writes, and the text after that word.
-fn part<T: FromWord>(text: &str) -> Result<(T, &str), NotCall>
-    ensures { followed result ≡ first_as T.value_of (words text.now) }
+// The value that the next word writes.
+fn part<T: FromWord>(words: &mut Words<'_>) -> Result<T, NotCall>
+    ensures { with_rest result words.new ≡ first_as T.value_of words.old }
 {
-    let (word, rest) = first_word(text).ok_or(NotCall::WordMissing)?;
-    Ok((T::from_word(word)?, rest))
+    T::from_word(words.next().ok_or(NotCall::WordMissing)?)
 }
 
-// The call, where no word is left.
-fn end(text: &str, call: Call) -> Result<Call, NotCall>
-    ensures { result ≡ end_of call (words text.now) }
+// The call of this name, from the words after the name.
+fn named(name: &str, words: &mut Words<'_>) -> Result<Call, NotCall>
+    ensures { result ≡ named_of name.now words.old }
 {
-    if first_word(text).is_some() {
-        return Err(NotCall::TooManyWords);
-    }
-    Ok(call)
-}
-
-fn enter(text: &str) -> Result<Call, NotCall>
-    ensures { result ≡ enter_of (words text.now) }
-{
-    let (place, text) = part(text)?;
-    let (rate, text) = part(text)?;
-    let (safe, text) = part(text)?;
-    let (coverage, text) = part(text)?;
-    end(
-        text,
-        Call::Enter {
-            place,
-            rate,
-            safe,
-            coverage,
+    let call = match name {
+        "enter" => Call::Enter {
+            place: part(words)?,
+            rate: part(words)?,
+            safe: part(words)?,
+            coverage: part(words)?,
         },
-    )
-}
-
-fn strike(text: &str) -> Result<Call, NotCall>
-    ensures { result ≡ strike_of (words text.now) }
-{
-    let (row, text) = part(text)?;
-    end(text, Call::Strike { row })
-}
-
-fn set(text: &str) -> Result<Call, NotCall>
-    ensures { result ≡ set_of (words text.now) }
-{
-    let (place, text) = part(text)?;
-    let (field, text) = part(text)?;
-    let (value, text) = part(text)?;
-    end(
-        text,
-        Call::Set {
-            place,
-            field,
-            value,
+        "strike" => Call::Strike { row: part(words)? },
+        "set" => Call::Set {
+            place: part(words)?,
+            field: part(words)?,
+            value: part(words)?,
         },
-    )
-}
-
-fn blank(text: &str) -> Result<Call, NotCall>
-    ensures { result ≡ blank_of (words text.now) }
-{
-    let (place, text) = part(text)?;
-    let (field, text) = part(text)?;
-    end(text, Call::Blank { place, field })
-}
-
-fn mode(text: &str) -> Result<Call, NotCall>
-    ensures { result ≡ mode_of (words text.now) }
-{
-    let (letter, text) = part(text)?;
-    end(text, Call::Mode { letter })
-}
-
-fn show(text: &str) -> Result<Call, NotCall>
-    ensures { result ≡ show_of (words text.now) }
-{
-    let (place, text) = part(text)?;
-    end(text, Call::Show { place })
-}
-
-// The call of this name, from the text after the name.
-fn named(name: &str, text: &str) -> Result<Call, NotCall>
-    ensures { result ≡ named_of name.now (words text.now) }
-{
-    match name {
-        "enter" => enter(text),
-        "strike" => strike(text),
-        "set" => set(text),
-        "blank" => blank(text),
-        "mode" => mode(text),
-        "clear" => end(text, Call::Clear),
-        "show" => show(text),
-        _ => Err(NotCall::UnknownName),
+        "blank" => Call::Blank {
+            place: part(words)?,
+            field: part(words)?,
+        },
+        "mode" => Call::Mode {
+            letter: part(words)?,
+        },
+        "clear" => Call::Clear,
+        "show" => Call::Show {
+            place: part(words)?,
+        },
+        _ => return Err(NotCall::UnknownName),
+    };
+    match words.next() {
+        None => Ok(call),
+        Some(_) => Err(NotCall::TooManyWords),
     }
 }
 
-// The call of a text without a comment, or none where it has no words.
+// The call that the words of a text make, or none where it has no words.
 fn call(text: &str) -> Result<Option<Call>, NotCall>
-    ensures { result ≡ call_of (words text.now) }
+    ensures { result ≡ call_of (words (uncommented text.now)) }
 {
-    first_word(text)
-        .map(|(name, text)| named(name, text))
-        .transpose()
+    let mut words = Words::of_line(text);
+    words.next().map(|name| named(name, &mut words)).transpose()
 }
 
 // The call that a line makes, none where the line is blank, or why the line is no call.
 // A line of text is read as a call just where the words before its comment spell that call: `accepted` and `spelled`.
 // `value` says which reason is told of a line that is no call. A call that was read can be printed, and is then read again.
+#[tactic(auto, using(crate::proofs::Printed::reading))]
 pub fn read(line: &[u8]) -> Result<Option<Call>, NotCall>
     ensures value { result ≡ read_of line.now }
     ensures text { Decides (is_utf8 line.now) (IsUtf8 line.now) }
@@ -129,6 +74,6 @@ pub fn read(line: &[u8]) -> Result<Option<Call>, NotCall>
     ensures printable { (c : Call) → result ≡ Ok (Some c) → Printable c }
     ensures back { (c : Call) → Printable c → line.now ≡ call_text c → result ≡ Ok (Some c) }
 {
-    let line = std::str::from_utf8(line).map_err(|_| NotCall::NotText)?;
-    call(before_comment(line))
+    let text = std::str::from_utf8(line).map_err(|_| NotCall::NotText)?;
+    call(text)
 }

@@ -1,6 +1,24 @@
 // How a line is cut: at its comment, and into words.
-ghost use Rattle.std.specs.Prelude.{◌≡◌, [], ◌∷◌, MatchOption};
+ghost use Rattle.std.specs.Prelude.{◌≡◌, [], ◌∷◌, length, MatchOption};
+ghost use Rattle.std.specs.Iterator.{at_most};
 ghost use Rattle.line.specs.Words.{blank, uncommented, words};
+
+use std::marker::Model;
+
+// The words of a text, from the left.
+#[derive(Drop)]
+pub(crate) struct Words<'a> {
+    text: &'a str,
+}
+
+impl<'a> Model for Words<'a> {
+    ghost use Rattle.std.specs.Prelude.{ℕ, List};
+    ghost use Rattle.line.specs.Words.{words};
+
+    ghost Value = { List (List ℕ) };
+
+    ghost view = { λ w. words w.text.now };
+}
 
 // White space as `char` knows it takes in more.
 fn is_blank(c: char) -> bool
@@ -9,19 +27,30 @@ fn is_blank(c: char) -> bool
     matches!(c, ' ' | '\t' | '\r' | '\n')
 }
 
-// The line up to its comment.
-pub(crate) fn before_comment(line: &str) -> &str
-    ensures { result.now ≡ uncommented line.now }
-{
-    line.split_once('#').map_or(line, |(text, _)| text)
+impl<'a> Words<'a> {
+    // The words of a line up to its comment.
+    pub(crate) fn of_line(line: &'a str) -> Words<'a>
+        ensures { result ≡ words (uncommented line.now) }
+    {
+        let text = line.split_once('#').map_or(line, |(text, _)| text);
+        Words { text }
+    }
 }
 
-// The first word of a text and what follows it, or nothing where it has no word.
-pub(crate) fn first_word(text: &str) -> Option<(&str, &str)>
-    ensures { MatchOption result (words text.now ≡ []) (λ p. words text.now ≡ p.0.now ∷ words p.1.now) }
-{
-    let start = text.find(|c| !is_blank(c))?;
-    let text = &text[start..];
-    let end = text.find(is_blank).unwrap_or(text.len());
-    Some(text.split_at(end))
+impl<'a> Iterator for Words<'a> {
+    type Item = &'a str;
+
+    ghost next_gives = { λ ws next rest. MatchOption next ((ws ≡ []) × (rest ≡ [])) (λ w. ws ≡ w.now ∷ rest) };
+
+    ghost remaining = { λ ws. at_most (length ws) };
+
+    fn next(&mut self) -> Option<&'a str> {
+        let text = self.text;
+        let start = text.find(|c| !is_blank(c))?;
+        let text = &text[start..];
+        let end = text.find(is_blank).unwrap_or(text.len());
+        let (word, rest) = text.split_at(end);
+        self.text = rest;
+        Some(word)
+    }
 }

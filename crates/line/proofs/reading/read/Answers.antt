@@ -1,34 +1,25 @@
-use Rattle.std.proofs.Common.{◌≡◌, ℕ, List, sym, ap, ◌∙◌, rules}
+use Rattle.std.proofs.Common.{◌≡◌, true, sym, ◌∙◌, rules}
+use Rattle.std.proofs.lemmas.Str.{is_utf8-from_IsUtf8}
+use Rattle.std.specs.Str.{is_utf8}
 use Rattle.line.specs.Calls.{call_of}
-use Rattle.line.specs.Words.{words}
-use Rattle.line.specs.Reading.{read_of}
-use Rattle.line.proofs.Printed.{read_back}
-use Rattle.line.proofs.Spelled.{text_decides, read_not_text, read_text, read_accepted, read_printable, read_spelled}
+use Rattle.line.specs.Words.{uncommented, words}
+use Rattle.line.proofs.Printed.{call_back}
+use Rattle.line.proofs.Spelled.{call_spells, spells_call}
 use Rattle.line.proofs.reading.read.Goals as goal
+use Rattle.line.proofs.reading.read.Goals.{After-call}
 
-pub returns-in_err-line : goal.returns-in_err-line
-returns-in_err-line c =
-    let line : List ℕ = c.args.line.now in
-    let e : c.from_residual.result ≡ read_of line = search (rules, read_not_text) in
-    record {
-      value = e;
-      text = text_decides line;
-      accepted = λ k h. read_accepted line k (sym e ∙ h);
-      spelled = λ k t h. e ∙ read_spelled line k t h;
-      printable = λ k h. read_printable line k (sym e ∙ h);
-      back = λ k h p. e ∙ (ap read_of p ∙ read_back k h);
-    }
+-- what was read is the call of the line, which is text
+called : (c : After-call) → c.call.result ≡ call_of (words (uncommented c.args.line.now))
+called c = let t : c.in_ok-text.text.now ≡ c.args.line.now = search rules in rw t at c.call.ensures
 
-pub returns : goal.returns
-returns c =
-    let line : List ℕ = c.args.line.now in
-    let t : c.in_ok-line.line.now ≡ line = search rules in
-    let e = c.call.ensures ∙ (ap (λ (x : List ℕ). call_of (words x)) (rw t at c.before_comment.ensures) ∙ read_text line (search rules)) in
-    record {
-      value = e;
-      text = text_decides line;
-      accepted = λ k h. read_accepted line k (sym e ∙ h);
-      spelled = λ k t h. e ∙ read_spelled line k t h;
-      printable = λ k h. read_printable line k (sym e ∙ h);
-      back = λ k h p. e ∙ (ap read_of p ∙ read_back k h);
-    }
+text : (c : After-call) → is_utf8 c.args.line.now ≡ true
+text c = is_utf8-from_IsUtf8 c.args.line.now (search rules)
+
+pub returns-clause-accepted : goal.returns-clause-accepted
+returns-clause-accepted c = λ k h. (text c, call_spells (words (uncommented c.args.line.now)) k (sym (called c) ∙ h))
+
+pub returns-clause-spelled : goal.returns-clause-spelled
+returns-clause-spelled c = λ k _ h. called c ∙ spells_call (words (uncommented c.args.line.now)) k h
+
+pub returns-clause-back : goal.returns-clause-back
+returns-clause-back c = λ k h p. called c ∙ rw p (call_back k h)
