@@ -1,3 +1,4 @@
 pub mod Growing
 pub mod Longest
+pub mod Places
 pub mod Writes

@@ -1,3 +1,2 @@
-pub mod Helpers
 pub mod Writing
 pub mod Laws

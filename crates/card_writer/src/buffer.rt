@@ -1,14 +1,8 @@
-// The card as it grows, field by field, in an array that every card fits.
-ghost use Rattle.std.specs.Prelude.{◌≤◌};
-ghost use Rattle.card.specs.Entries.{longest_card};
+// The card as it grows, field by field, in a place that every card fits, so that no call allocates.
+use arrayvec::ArrayVec;
 
 // The most bytes that a card has: a mode, 64 settings and 64 rows.
 pub const LONGEST_CARD: usize = 1348;
 
-// The bytes so far, and room for the rest.
-#[derive(Clone, Copy)]
-pub(crate) struct CardBuffer {
-    pub(crate) array: [u8; LONGEST_CARD],
-    pub(crate) length: usize,
-    ghost within: { length ≤ longest_card },
-}
+// The bytes so far, with room for the rest.
+pub(crate) type CardBuffer = ArrayVec<u8, LONGEST_CARD>;

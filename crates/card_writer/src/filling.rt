@@ -1,129 +1,121 @@
 // How a card is filled: the mode, the settings by place and field, then the rows.
-ghost use Rattle.std.specs.Prelude.{◌≡◌, ◌+◌, ◌*◌, ◌≤◌, [], ◌++◌, map, length};
+ghost use Rattle.std.specs.Prelude.{◌≡◌, ◌*◌, ◌≤◌, ◌++◌, length};
 ghost use Rattle.std.specs.Option.{option_map};
 ghost use Rattle.card.specs.declared.entry.Entry.{Entry};
-ghost use Rattle.card.specs.Entries.{bytes, card, field_bytes, longest_card, mode_entries, row_entries, setting_entries, share_number};
+ghost use Rattle.card.specs.Entries.{bytes, card, field_bytes, longest_card, mode_entries, mode_letter, row_entry, setting_entries, share_number};
 ghost use Rattle.sheet.specs.Holds.{model, row_of};
-ghost use Rattle.card_writer.specs.Helpers.{held};
 
-use crate::buffer::{CardBuffer, LONGEST_CARD};
+use crate::buffer::CardBuffer;
 use card::{
     BLANK_SHARE, Entry, MODE_LENGTH, MODE_TAG, ROW_LENGTH, ROW_TAG, SETTING_LENGTH, SETTING_TAG,
 };
 use sheet::{Mode, Place, Row, Share, Sheet};
 
-impl CardBuffer {
-    // No bytes yet.
-    fn new() -> CardBuffer
-        ensures { held result ≡ [] }
-    {
-        CardBuffer {
-            array: [0; LONGEST_CARD],
-            length: 0,
+// One field more.
+fn push(card: &mut CardBuffer, entry: Entry)
+    requires { length (card.old.items ++ field_bytes entry) ≤ longest_card }
+    ensures { card.new.items ≡ card.old.items ++ field_bytes entry }
+{
+    let added = match entry {
+        Entry::Mode { letter } => {
+            card.try_extend_from_slice(&[MODE_TAG, 0, MODE_LENGTH, letter])
         }
-    }
+        Entry::Setting {
+            place,
+            field,
+            value,
+        } => card.try_extend_from_slice(&setting_bytes(place, field, value)),
+        Entry::Row {
+            place,
+            rate,
+            safe,
+            coverage,
+        } => card.try_extend_from_slice(&row_bytes(place, rate, safe, coverage)),
+    };
+    added.unwrap()
+}
 
-    // Some bytes more.
-    fn append(&mut self, part: &[u8])
-        requires { length (held self.old) + length part.now ≤ longest_card }
-        ensures { held self.new ≡ held self.old ++ part.now }
-    {
-        let end = self.length + part.len();
-        self.array[self.length..end].copy_from_slice(part);
-        self.length = end;
-    }
-
-    // One field more.
-    fn push(&mut self, entry: Entry)
-        requires { length (held self.old) + 12 ≤ longest_card }
-        ensures { held self.new ≡ held self.old ++ field_bytes entry }
-    {
-        match entry {
-            Entry::Mode { letter } => self.append(&[MODE_TAG, 0, MODE_LENGTH, letter]),
-            Entry::Setting {
-                place,
-                field,
-                value,
-            } => {
-                let [a, b, c, d] = value.to_be_bytes();
-                self.append(&[SETTING_TAG, 0, SETTING_LENGTH, place, field, a, b, c, d]);
-            }
-            Entry::Row {
-                place,
-                rate,
-                safe,
-                coverage,
-            } => self.append(&row_bytes(place, rate, safe, coverage)),
-        }
-    }
-
-    // The mode, if there is one.
-    fn push_mode(&mut self, mode: Option<Mode>)
-        requires { length (held self.old) + 12 ≤ longest_card }
-        ensures { held self.new ≡ held self.old ++ bytes (mode_entries mode) }
-    {
-        let letter = match mode {
-            Some(Mode::Low) => b'L',
-            Some(Mode::High) => b'H',
-            None => return,
-        };
-        self.push(Entry::Mode { letter });
-    }
-
-    // The eight fields of a place, those that are not blank.
-    fn push_place(&mut self, place: u8, values: &[Option<u32>])
-        requires { (length values.now ≡ 8) × (length (held self.old) + 84 ≤ longest_card) }
-        ensures { held self.new ≡ held self.old ++ bytes (setting_entries (8 * place) values.now) }
-    {
-        for (i, value) in values.iter().enumerate() {
-            if let Some(value) = *value {
-                let field = i as u8 + 1;
-                self.push(Entry::Setting {
+// The eight fields of a place, those that are not blank.
+fn push_place(card: &mut CardBuffer, place: u8, values: [Option<u32>; 8])
+    requires { length (card.old.items ++ bytes (setting_entries (8 * place) values)) ≤ longest_card }
+    ensures { card.new.items ≡ card.old.items ++ bytes (setting_entries (8 * place) values) }
+{
+    for (field, value) in (1..).zip(values) {
+        if let Some(value) = value {
+            push(
+                card,
+                Entry::Setting {
                     place,
                     field,
                     value,
-                });
-            }
+                },
+            );
         }
     }
+}
 
-    // The settings of all places.
-    fn push_settings(&mut self, sheet: &Sheet)
-        requires { length (held self.old) ≤ 4 }
-        ensures { held self.new ≡ held self.old ++ bytes (setting_entries 0 (model sheet.now).fields) }
-    {
-        for number in 0..8 {
-            if let Some(place) = Place::new(number) {
-                self.push_place(place.number, &sheet.values(place));
-            }
-        }
+// A card with the mode, if there is one.
+fn with_mode(mode: Option<Mode>) -> CardBuffer
+    ensures { result.items ≡ bytes (mode_entries mode) }
+{
+    let mut card = CardBuffer::new();
+    if let Some(mode) = mode {
+        let letter = letter(mode);
+        push(&mut card, Entry::Mode { letter });
     }
+    card
+}
 
-    // The rows in order.
-    fn push_rows(&mut self, rows: &[Row])
-        requires { length (held self.old) + 12 * length rows.now ≤ longest_card }
-        ensures { held self.new ≡ held self.old ++ bytes (row_entries (map row_of rows.now)) }
-    {
-        for row in rows {
-            self.push(Entry::Row {
-                place: row.place.number,
-                rate: row.rate,
-                safe: share_number(row.safe),
-                coverage: share_number(row.coverage),
-            });
-        }
+// A card with the mode and the settings of all places.
+fn with_settings(sheet: &Sheet) -> CardBuffer
+    ensures { result.items ≡ bytes (mode_entries (model sheet.now).mode) ++ bytes (setting_entries 0 (model sheet.now).fields) }
+{
+    let mut card = with_mode(sheet.mode());
+    for place in (0..8).filter_map(Place::new) {
+        push_place(&mut card, place.number, sheet.values(place));
     }
+    card
+}
 
-    // The card of a sheet.
-    pub(crate) fn of(sheet: &Sheet) -> CardBuffer
-        ensures { held result ≡ card (model sheet.now) }
-    {
-        let mut buffer = CardBuffer::new();
-        buffer.push_mode(sheet.mode());
-        buffer.push_settings(sheet);
-        buffer.push_rows(sheet.rows());
-        buffer
+// The card of a sheet.
+pub(crate) fn card_of(sheet: &Sheet) -> CardBuffer
+    ensures { result.items ≡ card (model sheet.now) }
+{
+    let mut card = with_settings(sheet);
+    for row in sheet.rows() {
+        push(&mut card, entry_of(row));
     }
+    card
+}
+
+// The letter of a mode.
+fn letter(mode: Mode) -> u8
+    ensures { result ≡ mode_letter mode }
+{
+    match mode {
+        Mode::Low => b'L',
+        Mode::High => b'H',
+    }
+}
+
+// The field of a row.
+fn entry_of(row: &Row) -> Entry
+    ensures { result ≡ row_entry (row_of row.now) }
+{
+    Entry::Row {
+        place: row.place.number,
+        rate: row.rate,
+        safe: share_number(row.safe),
+        coverage: share_number(row.coverage),
+    }
+}
+
+// The bytes of a setting's field.
+fn setting_bytes(place: u8, field: u8, value: u32) -> [u8; 9]
+    ensures { result ≡ field_bytes (Entry.Setting place field value) }
+{
+    let [a, b, c, d] = value.to_be_bytes();
+    [SETTING_TAG, 0, SETTING_LENGTH, place, field, a, b, c, d]
 }
 
 // The bytes of a row's field.
@@ -140,8 +132,5 @@ fn row_bytes(place: u8, rate: u32, safe: u16, coverage: u16) -> [u8; 12]
 fn share_number(share: Option<Share>) -> u16
     ensures { result ≡ share_number (option_map (λ s. s.thousandths) share) }
 {
-    match share {
-        Some(share) => share.thousandths,
-        None => BLANK_SHARE,
-    }
+    share.map_or(BLANK_SHARE, |share| share.thousandths)
 }

@@ -1,34 +1,24 @@
 // How a card is written.
-ghost use Rattle.std.specs.Prelude.{◌≡◌, ◌≤◌, ◌++◌, length, drop};
+ghost use Rattle.std.specs.Prelude.{◌≡◌};
 ghost use Rattle.sheet.specs.Holds.{model};
-ghost use Rattle.card_writer.specs.Helpers.{held};
 ghost use Rattle.card_writer.specs.Laws.{LongestReached, Writes};
 ghost use Rattle.card_writer.specs.Writing.{area_answer, write_answer, written};
 
 use crate::area::AreaShort;
-use crate::buffer::CardBuffer;
+use crate::filling::card_of;
 use sheet::Sheet;
-
-// Puts the card at the start of the area.
-fn put(area: &mut [u8], card: &CardBuffer)
-    requires { length (held card.now) ≤ length area.old }
-    ensures { area.new ≡ held card.now ++ drop (length (held card.now)) area.old }
-{
-    let end = card.length;
-    area[..end].copy_from_slice(&card.array[..end]);
-}
 
 // The card of the sheet at the start of the area, and its length; or nothing, where the area is shorter.
 fn put_card(sheet: &Sheet, area: &mut [u8]) -> Result<usize, AreaShort>
     ensures answer { area_answer result ≡ write_answer (model sheet.now) area.old }
     ensures after { area.new ≡ written (model sheet.now) area.old }
 {
-    let card = CardBuffer::of(sheet);
-    if area.len() < card.length {
+    let card = card_of(sheet);
+    if area.len() < card.len() {
         return Err(AreaShort);
     }
-    put(area, &card);
-    Ok(card.length)
+    area[..card.len()].copy_from_slice(&card);
+    Ok(card.len())
 }
 
 // Writes the card of the sheet at the start of the area, keeps the rest of the area, and answers the card's length; writes nothing where

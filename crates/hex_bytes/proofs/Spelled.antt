@@ -1,17 +1,15 @@
 -- A word is read just where it writes bytes, and the word of bytes writes them.
-use Rattle.std.proofs.Common.{◌≡◌, ◌∙◌, option_map, ℕ, ◌+◌, ◌-◌, ◌*◌, ◌<◌, ◌≤◌, Bool, true, false, cond, ◌&&◌, eqb, ltb, leb, List, [], ◌∷◌, length, Some, None, Ok, Err, codes, Option, refl, inl, inr, ⊎_elim, arith}
+use Rattle.std.proofs.Common.{◌≡◌, ℕ, ◌+◌, ◌-◌, ◌*◌, ◌/◌, ◌%◌, ◌<◌, ◌≤◌, Bool, true, false, cond, ◌&&◌, eqb, ltb, leb, List, [], ◌∷◌, length, Some, None, Ok, Err, codes, Option, refl, inl, inr, ⊎_elim, arith}
 use Rattle.std.proofs.lemmas.Slice.Eq.{bytes_eq-Decides}
-use Rattle.std.proofs.lemmas.Bool.{and_right, cond_both, le-ltb, lt-ltb, ltb-false}
+use Rattle.std.proofs.lemmas.Bool.{and_right, cond_both, le-ltb, ltb-false}
 use Rattle.std.proofs.lemmas.Bool.Decides.{nat_tests}
 use Rattle.std.specs.List.{AllByRecursion}
 use Rattle.std.specs.Str.{bytes_eq}
-use Rattle.hex_bytes.specs.declared.bytes.Bytes.{Bytes}
-use Rattle.hex_bytes.specs.declared.reading.NotHex.TheVariants.{NotPairs, TooLong}
-use Rattle.hex_bytes.specs.Digits.{before, byte_of, digit_of, hex_of, hex_text, hex_word}
-use Rattle.hex_bytes.specs.Kept.{capacity, kept_as}
+use Rattle.hex_bytes.specs.declared.reading.NotHex.TheVariants.{TooLong}
+use Rattle.hex_bytes.specs.Digits.{before, byte_of, character, digit_of, hex_of, hex_text, hex_word}
+use Rattle.hex_bytes.specs.Capacity.{capacity}
 use Rattle.hex_bytes.specs.Reading.{bytes_of, from_hex_of, kept_or, longest}
 use Rattle.hex_bytes.specs.Writing.{Digit, Pairs, Writes}
-use Rattle.hex_bytes.proofs.Pairing.{hex_back}
 
 -- a digit is read as the number that it stands for, and no other character is read
 digit_some : (c n : ℕ) → Digit c n → digit_of c ≡ Some n
@@ -26,7 +24,7 @@ some_digit c n h =
     cond_both (leb 48 c && leb c 57) _ _ P (λ t k. let e : c - 48 ≡ n = cc in inl (grind (arith, nat_tests), grind (arith, nat_tests)))
     (λ _. cond_both (leb 97 c && leb c 102) _ _ P (λ t k. let e : c - 97 + 10 ≡ n = cc in inr (inl (grind (arith, nat_tests)), grind (arith, nat_tests), grind (arith, nat_tests)))
     (λ _. cond_both (leb 65 c && leb c 70) _ _ P (λ t k. let e : c - 65 + 10 ≡ n = cc in inr (inr (grind (arith, nat_tests)), grind (arith, nat_tests), grind (arith, nat_tests)))
-    (λ _ k. let z : ◌≡◌ {A = ℕ} 0 1 = cc in absurd (omega arith)))) h
+    (λ _ k. cc))) h
 
 -- a digit is below sixteen
 digit_below : (c n : ℕ) → Digit c n → n < 16
@@ -38,16 +36,16 @@ pairs_hex w [] h = rw h refl
 pairs_hex w (b ∷ bs) h = rw (h.5, digit_some h.0 h.2 h.6, digit_some h.1 h.3 h.7, pairs_hex h.4 bs h.9, h.8) refl
 
 pairs_by : (x y : ℕ) (cs bs : List ℕ) (m n : Option ℕ) (o : Option (List ℕ)) → digit_of x ≡ m → digit_of y ≡ n → hex_of cs ≡ o → ((ds : List ℕ) → hex_of cs ≡ Some ds → Pairs cs ds) → before (byte_of m n) o ≡ Some bs → Pairs (x ∷ y ∷ cs) bs
-pairs_by x y cs bs None n o e f g r h = let z : ◌≡◌ {A = ℕ} 0 1 = cc in absurd (omega arith)
-pairs_by x y cs bs (Some m) None o e f g r h = let z : ◌≡◌ {A = ℕ} 0 1 = cc in absurd (omega arith)
-pairs_by x y cs bs (Some m) (Some n) None e f g r h = let z : ◌≡◌ {A = ℕ} 0 1 = cc in absurd (omega arith)
-pairs_by x y cs [] (Some m) (Some n) (Some ds) e f g r h = let z : ◌≡◌ {A = ℕ} 0 1 = cc in absurd (omega arith)
+pairs_by x y cs bs None n o e f g r h = cc
+pairs_by x y cs bs (Some m) None o e f g r h = cc
+pairs_by x y cs bs (Some m) (Some n) None e f g r h = cc
+pairs_by x y cs [] (Some m) (Some n) (Some ds) e f g r h = cc
 pairs_by x y cs (b ∷ bs) (Some m) (Some n) (Some ds) e f g r h = (x, y, m, n, cs, refl, some_digit x m e, some_digit y n f, (cc), r bs (cc))
 
 hex_pairs : (w bs : List ℕ) → hex_of w ≡ Some bs → Pairs w bs
 hex_pairs [] [] h = refl
-hex_pairs [] (b ∷ bs) h = let z : ◌≡◌ {A = ℕ} 0 1 = cc in absurd (omega arith)
-hex_pairs (x ∷ []) bs h = let z : ◌≡◌ {A = ℕ} 0 1 = cc in absurd (omega arith)
+hex_pairs [] (b ∷ bs) h = cc
+hex_pairs (x ∷ []) bs h = cc
 hex_pairs (x ∷ y ∷ cs) bs h = pairs_by x y cs bs (digit_of x) (digit_of y) (hex_of cs) refl refl refl (hex_pairs cs) h
 
 -- there are two characters for each byte
@@ -83,59 +81,44 @@ writes_bytes w (b ∷ bs) h =
     rw (n, d) (pairs_hex w (b ∷ bs) h)
 
 bytes_by : (p q : Bool) (w bs : List ℕ) → eqb (length w) 0 ≡ p → bytes_eq w (codes "-") ≡ q → cond p None (cond q (Some []) (hex_of w)) ≡ Some bs → Writes w bs
-bytes_by true q w bs e f h = let z : ◌≡◌ {A = ℕ} 0 1 = cc in absurd (omega arith)
+bytes_by true q w bs e f h = cc
 bytes_by false true w [] e f h = (bytes_eq-Decides w (codes "-")).0 f
-bytes_by false true w (b ∷ bs) e f h = let z : ◌≡◌ {A = ℕ} 0 1 = cc in absurd (omega arith)
+bytes_by false true w (b ∷ bs) e f h = cc
 bytes_by false false w [] e f h = let k : w ≡ [] = hex_pairs w [] h in let z : true ≡ false = rw k at e in let y : ◌≡◌ {A = ℕ} 0 1 = cc in absurd (omega arith)
 bytes_by false false w (b ∷ bs) e f h = hex_pairs w (b ∷ bs) h
 
 bytes_writes : (w bs : List ℕ) → bytes_of w ≡ Some bs → Writes w bs
 bytes_writes w bs h = bytes_by (eqb (length w) 0) (bytes_eq w (codes "-")) w bs refl refl h
 
--- a word that is too long is told so
-pub too_long : (w : List ℕ) → longest < length w → Err TooLong ≡ from_hex_of w
-too_long w h = rw (lt-ltb longest (length w) h) refl
-
 -- both ways for a word that is read
-pub writes_read : (w bs : List ℕ) → Writes w bs → length bs ≤ capacity → from_hex_of w ≡ Ok (kept_as bs)
+pub writes_read : (w bs : List ℕ) → Writes w bs → length bs ≤ capacity → from_hex_of w ≡ Ok bs
 writes_read w bs h l = rw (le-ltb longest (length w) (writes_short w bs h l), writes_bytes w bs h) refl
 
 -- what a word that was read writes
-pub record Written (w : List ℕ) (b : Bytes) : Type 0 where
-  pub bytes : List ℕ
-  pub writes : Writes w bytes
-  pub few : length bytes ≤ capacity
-  pub is : b ≡ kept_as bytes
+read_by : (p : Bool) (o : Option (List ℕ)) (w bs : List ℕ) → ltb longest (length w) ≡ p → bytes_of w ≡ o → cond p (Err TooLong) (kept_or o) ≡ Ok bs → Writes w bs × (length bs ≤ capacity)
+read_by false (Some ds) w bs e f h =
+    let d : ds ≡ bs = cc in
+    let k : Writes w bs = rw d at (bytes_writes w ds f) in
+    (k, writes_few w bs k (ltb-false longest (length w) e))
+read_by false None w bs e f h = cc
+read_by true o w bs e f h = cc
 
-read_by : (p : Bool) (o : Option (List ℕ)) (w : List ℕ) (b : Bytes) → ltb longest (length w) ≡ p → bytes_of w ≡ o → cond p (Err TooLong) (kept_or o) ≡ Ok b → Written w b
-read_by false (Some bs) w b e f h = let k = bytes_writes w bs f in record { bytes = bs; writes = k; few = writes_few w bs k (ltb-false longest (length w) e); is = (cc) }
-read_by false None w b e f h = let z : ◌≡◌ {A = ℕ} 0 1 = cc in absurd (omega arith)
-read_by true o w b e f h = let z : ◌≡◌ {A = ℕ} 0 1 = cc in absurd (omega arith)
+pub read_writes : (w bs : List ℕ) → from_hex_of w ≡ Ok bs → Writes w bs × (length bs ≤ capacity)
+read_writes w bs h = read_by (ltb longest (length w)) (bytes_of w) w bs refl refl h
 
-pub read_writes : (w : List ℕ) (b : Bytes) → from_hex_of w ≡ Ok b → Written w b
-read_writes w b h = read_by (ltb longest (length w)) (bytes_of w) w b refl refl h
+-- the digits of a byte are read as the byte
+digit_character : (n : ℕ) → n < 16 → digit_of (character n) ≡ Some n
+digit_character n h = grind (arith, nat_tests)
+
+hex_back : (bs : List ℕ) → AllByRecursion (λ b. b < 256) bs → hex_of (hex_text bs) ≡ Some bs
+hex_back [] h = refl
+hex_back (b ∷ bs) h =
+    let lt : b / 16 < 16 = omega (arith, h.0) in
+    let m : b % 16 < 16 = omega arith in
+    let e : b / 16 * 16 + b % 16 ≡ b = omega arith in
+    rw (digit_character (b / 16) lt, digit_character (b % 16) m, hex_back bs h.1, e) refl
 
 -- the word of bytes writes them
 pub word_writes : (bs : List ℕ) → AllByRecursion (λ b. b < 256) bs → Writes (hex_word bs) bs
 word_writes [] h = refl
 word_writes (b ∷ bs) h = hex_pairs (hex_text (b ∷ bs)) (b ∷ bs) (hex_back (b ∷ bs) h)
-
--- what is read of a word that is neither too long, nor empty, nor `-`
-read_kept : (o : Option (List ℕ)) (b : Bytes) → Some b ≡ option_map kept_as o → Ok b ≡ kept_or o
-read_kept None b q = cc
-read_kept (Some bs) b q = cc
-
-read_none : (o : Option (List ℕ)) → None ≡ option_map kept_as o → Err NotPairs ≡ kept_or o
-read_none None q = refl
-read_none (Some bs) q = cc
-
-from_pairs : (w : List ℕ) → length w ≤ longest → eqb (length w) 0 ≡ false → bytes_eq w (codes "-") ≡ false → kept_or (hex_of w) ≡ from_hex_of w
-from_pairs w l e d = let q : ltb longest (length w) ≡ false = le-ltb _ _ l in rw (q, e, d) refl
-
-pub from_some : (w : List ℕ) (b : Bytes) → length w ≤ longest → eqb (length w) 0 ≡ false → bytes_eq w (codes "-") ≡ false
-    → Some b ≡ option_map kept_as (hex_of w) → Ok b ≡ from_hex_of w
-from_some w b l e d q = read_kept (hex_of w) b q ∙ from_pairs w l e d
-
-pub from_none : (w : List ℕ) → length w ≤ longest → eqb (length w) 0 ≡ false → bytes_eq w (codes "-") ≡ false
-    → None ≡ option_map kept_as (hex_of w) → Err NotPairs ≡ from_hex_of w
-from_none w l e d q = read_none (hex_of w) q ∙ from_pairs w l e d

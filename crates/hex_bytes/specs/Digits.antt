@@ -15,6 +15,13 @@ byte_of None l = None
 byte_of (Some h) None = None
 byte_of (Some h) (Some l) = Some (h * 16 + l)
 
+-- the byte of a pair of digits, and of fewer or more characters none
+abbrev pub pair_of : List ℕ → Option ℕ
+pair_of [] = None
+pair_of (h ∷ []) = None
+pair_of (h ∷ l ∷ []) = byte_of (digit_of h) (digit_of l)
+pair_of (h ∷ l ∷ c ∷ cs) = None
+
 -- one byte before the others, where all of them are there
 abbrev pub before : Option ℕ → Option (List ℕ) → Option (List ℕ)
 before None o = None

@@ -1,19 +1,17 @@
--- The bytes that a value holds, and the value that holds given bytes.
-use Rattle.std.specs.Prelude.{ℕ, ◌-◌, cond, List, ◌++◌, length, take, replicate, Some, None, Option, nat_le}
-use Rattle.hex_bytes.specs.declared.bytes.Bytes.{Bytes}
+-- The bytes that fields hold, and the fields that hold given bytes.
+use Rattle.std.specs.Prelude.{◌≡◌, ℕ, ◌-◌, ◌≤◌, List, ◌++◌, length, take, replicate}
+use Rattle.hex_bytes.specs.declared.bytes.Bytes.TheInside.{Inside}
+use Rattle.hex_bytes.specs.Capacity.{capacity}
 
--- the most bytes that are kept
-abbrev pub capacity : ℕ
-capacity = 2048
-
--- the bytes that a value holds
-abbrev pub held : Bytes → List ℕ
+-- the bytes that fields hold
+abbrev pub held : Inside → List ℕ
 held b = take b.length b.array
 
--- the value that holds these bytes: the bytes, zeros after them up to the capacity, and how many bytes there are
-abbrev pub kept_as : List ℕ → Bytes
+-- the fields that hold these bytes: the bytes, zeros after them up to the capacity, and how many bytes there are
+abbrev pub kept_as : List ℕ → Inside
 kept_as bs = record { array = bs ++ replicate (capacity - length bs) 0; length = length bs }
 
--- the value that holds these bytes, or none where they are too many
-abbrev pub slice_kept : List ℕ → Option Bytes
-slice_kept bs = cond (nat_le (length bs) capacity) (Some (kept_as bs)) None
+-- the fields are those that hold the bytes, which are not more than the capacity
+pub record IsKept (b : Inside) : Type 0 where
+  pub few : length (held b) ≤ capacity
+  pub padded : b ≡ kept_as (held b)

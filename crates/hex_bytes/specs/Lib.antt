@@ -1,3 +1,4 @@
+pub mod Capacity
 pub mod Kept
 pub mod Digits
 pub mod Reading

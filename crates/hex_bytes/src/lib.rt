@@ -45,4 +45,19 @@ mod tests {
         assert_eq!(rt; format!(in rt.alloc(); "{none}")?.as_str(), "-");
         Ok(())
     }
+
+    #[test]
+    fn reasons_are_told(rt: HostRuntime) -> Result<(), Fail> {
+        let no_pairs = format!(in rt.alloc(); "{}", NotHex::NotPairs)?;
+        assert_eq!(rt;
+            no_pairs.as_str(),
+            "neither `-` nor pairs of hexadecimal digits"
+        );
+        let too_long = format!(in rt.alloc(); "{}", NotHex::TooLong)?;
+        assert_eq!(rt;
+            too_long.as_str(),
+            "more than two digits for each of 2,048 bytes"
+        );
+        Ok(())
+    }
 }

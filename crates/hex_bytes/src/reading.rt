@@ -1,15 +1,15 @@
 // The bytes that a word writes.
-ghost use Rattle.std.specs.Prelude.{◌≡◌, ℕ, ◌<◌, ◌≤◌, List, length, Ok, codes};
+ghost use Rattle.std.specs.Prelude.{◌≡◌, ℕ, ◌<◌, ◌≤◌, List, length, Some, Ok};
+ghost use Rattle.hex_bytes.specs.Capacity.{capacity};
 ghost use Rattle.hex_bytes.specs.Digits.{hex_of, hex_word};
-ghost use Rattle.hex_bytes.specs.Kept.{capacity, kept_as};
-ghost use Rattle.hex_bytes.specs.Reading.{from_hex_of, longest};
+ghost use Rattle.hex_bytes.specs.Reading.{from_hex_of, longest, reason};
 ghost use Rattle.hex_bytes.specs.Writing.{Writes};
-ghost use Rattle.std.specs.Option.{option_map};
 ghost use Rattle.std.specs.List.{AllByRecursion};
-ghost use Rattle.std.specs.Str.{bytes_eq};
 
 use crate::bytes::{Bytes, CAPACITY};
 use crate::digits::byte;
+use std::error::Error;
+use std::fmt;
 
 // The most characters of a word: two for each byte that can be kept.
 const LONGEST: usize = 2 * CAPACITY;
@@ -23,43 +23,42 @@ pub enum NotHex {
     TooLong,
 }
 
-// Whether the word is `-`.
-fn is_dash(word: &[u8]) -> bool
-    ensures { result ≡ bytes_eq word.now (codes "-") }
-{
-    word == "-".as_bytes()
+impl fmt::Display for NotHex {
+    ghost output = { λ e. Some (reason e) };
+
+    fn fmt<W: fmt::Write>(&self, f: &mut fmt::Formatter<W>) -> fmt::Result {
+        f.write_str(match self {
+            NotHex::NotPairs => "neither `-` nor pairs of hexadecimal digits",
+            NotHex::TooLong => "more than two digits for each of 2,048 bytes",
+        })
+    }
 }
+
+impl Error for NotHex {}
 
 // The bytes that pairs of digits write.
 fn pairs(word: &[u8]) -> Option<Bytes>
     requires { length word.now ≤ longest }
-    ensures { result ≡ option_map kept_as (hex_of word.now) }
+    ensures { result ≡ hex_of word.now }
 {
     let mut bytes = Bytes::none();
-    let mut rest = word;
-    while rest.len() >= 2 {
-        bytes.push(byte(rest[0], rest[1])?);
-        rest = &rest[2..];
+    for pair in word.chunks(2) {
+        bytes.push(byte(pair)?);
     }
-    if rest.is_empty() { Some(bytes) } else { None }
+    Some(bytes)
 }
 
-// What the word is read as.
+// What a word is read as.
 fn read(word: &[u8]) -> Result<Bytes, NotHex>
     ensures { result ≡ from_hex_of word.now }
 {
     if word.len() > LONGEST {
         return Err(NotHex::TooLong);
     }
-    if word.is_empty() {
-        return Err(NotHex::NotPairs);
-    }
-    if is_dash(word) {
-        return Ok(Bytes::none());
-    }
-    match pairs(word) {
-        Some(bytes) => Ok(bytes),
-        None => Err(NotHex::NotPairs),
+    match word {
+        b"" => Err(NotHex::NotPairs),
+        b"-" => Ok(Bytes::none()),
+        _ => pairs(word).ok_or(NotHex::NotPairs),
     }
 }
 
@@ -69,9 +68,9 @@ impl Bytes {
     // `value` says which reason is told of any other word. The word of bytes that are printed is read as these bytes: `back`.
     pub fn from_hex(word: &[u8]) -> Result<Bytes, NotHex>
         ensures value { result ≡ from_hex_of word.now }
-        ensures accepted { (b : Bytes) → result ≡ Ok b → (bs : List ℕ) × Writes word.now bs × (length bs ≤ capacity) × (b ≡ kept_as bs) }
-        ensures spelled { (bs : List ℕ) → Writes word.now bs → length bs ≤ capacity → result ≡ Ok (kept_as bs) }
-        ensures back { (bs : List ℕ) → AllByRecursion (λ b. b < 256) bs → length bs ≤ capacity → word.now ≡ hex_word bs → result ≡ Ok (kept_as bs) }
+        ensures accepted { (bs : List ℕ) → result ≡ Ok bs → Writes word.now bs × (length bs ≤ capacity) × AllByRecursion (λ b. b < 256) bs }
+        ensures spelled { (bs : List ℕ) → Writes word.now bs → length bs ≤ capacity → result ≡ Ok bs }
+        ensures back { (bs : List ℕ) → AllByRecursion (λ b. b < 256) bs → length bs ≤ capacity → word.now ≡ hex_word bs → result ≡ Ok bs }
     {
         read(word)
     }

@@ -1,18 +1,19 @@
-use Rattle.std.proofs.Common.{◌≡◌, ℕ, ◌+◌, ◌<◌, List, [], ◌∷◌, ◌++◌, length, sym, ◌∙◌, arith, length-drop, length-take, rules}
+use Rattle.std.proofs.Common.{◌≡◌, ◌∙◌, arith, rules}
 use Rattle.std.proofs.lemmas.List.{length_push}
+use Rattle.std.specs.Slice.Iter.{chunks_rest}
 use Rattle.hex_bytes.specs.Digits.{hex_of}
-use Rattle.hex_bytes.specs.Kept.{capacity}
 use Rattle.hex_bytes.proofs.Pairing.{hex_none, hex_step}
 use Rattle.hex_bytes.proofs.reading.pairs.Goals as goal
 
-pub loop-rest-init : goal.loop-rest-init
-loop-rest-init c = ([], c.none-bytes.ensures, search rules, hex_none (hex_of c.args.word.now))
+pub loop-pair-init : goal.loop-pair-init
+loop-pair-init c =
+    let rest : chunks_rest c.into_iter-pair-iterator.result ≡ c.args.word.now = search rules in
+    (search rules, tt, search rules, search rules, rw (c.none-bytes.ensures, rest) (hex_none (hex_of c.args.word.now)))
 
-pub loop-rest-preserved : goal.loop-rest-preserved
-loop-rest-preserved c =
-    let inv = c.loop-rest.invariant in
-    let os : List ℕ = inv.0 in
-    let b : ℕ = c.in_ok-byte.field-0 in
-    let n : length os < capacity = omega (arith, inv.2) in
-    let l : length (os ++ (b ∷ [])) ≡ length os + 1 = length_push os b in
-    (os ++ (b ∷ []), c.push.ensures os inv.1 n, simp (length-take, length-drop, length_push) (omega (arith, inv.2)), inv.3 ∙ hex_step c.loop-rest.rest.now b os c.loop-rest-test.true (sym c.in_ok-byte.ensures))
+pub loop-pair-preserved : goal.loop-pair-preserved
+loop-pair-preserved c =
+    let inv = c.loop-pair.invariant in
+    let steps = c.in-Some.ensures.steps in
+    let read = hex_step _ c.in-Some.pair.now (chunks_rest c.next.new.self) c.loop-pair.bytes c.in_ok-byte.field-0 steps.1.0 c.in_ok-byte.ensures in
+    let more = length_push c.loop-pair.bytes c.in_ok-byte.field-0 in
+    (search rules, tt, steps.0 ∙ inv.2, rw c.push.ensures (omega (arith, read.0, more, inv.3)), rw c.push.ensures (inv.4 ∙ read.1))

@@ -1,5 +1,5 @@
 use Rattle.hex_bytes.proofs.Keeping.{pushed}
 use Rattle.hex_bytes.proofs.bytes.Bytes.push.Goals as goal
 
-pub returns-then-self-lt-CAPACITY : goal.returns-then-self-lt-CAPACITY
-returns-then-self-lt-CAPACITY c = λ bs e h. pushed c.args.self.now bs c.args.byte e h
+pub invariant_of-self : goal.invariant_of-self
+invariant_of-self c = pushed c.self.inside c.args.byte c.self.invariant (rw (← c.self.view_is) at c.requires)
