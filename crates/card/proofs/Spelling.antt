@@ -40,10 +40,14 @@ spell_on bs (suc n) i h =
 spell : (bs : List ℕ) (n : ℕ) → n ≤ length bs → bs ≡ map (λ j. get_or bs j 0) (from 0 n) ++ drop (0 + n) bs
 spell bs n h = spell_on bs n 0 (omega arith)
 
-byte_at : (bs : List ℕ) → AllBytes bs → (i : ℕ) → get_or bs i 0 < 256
-byte_at [] by i = omega arith
-byte_at (b ∷ bs) by zero = by.0
-byte_at (b ∷ bs) by (suc i) = byte_at bs by.1 i
+-- each number is a byte, and past the end stands 0
+abbrev Fit : List ℕ → Type 0
+Fit bs = (i : ℕ) → get_or bs i 0 < 256
+
+fit : (bs : List ℕ) → AllBytes bs → Fit bs
+fit [] by i = omega arith
+fit (b ∷ bs) by zero = by.0
+fit (b ∷ bs) by (suc i) = fit bs by.1 i
 
 four_are : (a b c d : ℕ) → a < 256 → b < 256 → c < 256 → d < 256
     → four_bytes (a * 16777216 + b * 65536 + c * 256 + d) ≡ a ∷ b ∷ c ∷ d ∷ []
@@ -65,27 +69,25 @@ mode_spelled : (h l : ℕ) (bs : List ℕ) → h * 256 + l ≡ 1 → 1 ≤ lengt
 unfolding from
 mode_spelled h l bs q k = let x : h ≡ 0 = omega arith in let y : l ≡ 1 = omega arith in rw (x, y) (ap (λ s. 1 ∷ 0 ∷ 1 ∷ s) (spell bs 1 k))
 
-setting_spelled : (h l : ℕ) (bs : List ℕ) → AllBytes bs → l < 256 → h * 256 + l ≡ 6 → 6 ≤ length bs
+setting_spelled : (h l : ℕ) (bs : List ℕ) → Fit bs → l < 256 → h * 256 + l ≡ 6 → 6 ≤ length bs
     → 2 ∷ h ∷ l ∷ bs ≡ field_bytes (Entry.Setting (get_or bs 0 0) (get_or bs 1 0) (four_at bs 2)) ++ drop 6 bs
 unfolding from
-setting_spelled h l bs by k q n =
+setting_spelled h l bs a k q n =
     let x : h ≡ 0 = omega arith in let y : l ≡ 6 = omega arith in
-    let a = byte_at bs by in
     rw (x, y) (ap (λ s. 2 ∷ 0 ∷ 6 ∷ s) (spell bs 6 n)
     ∙ ap (λ s. 2 ∷ 0 ∷ 6 ∷ get_or bs 0 0 ∷ get_or bs 1 0 ∷ (s ++ drop 6 bs)) (sym (four_are _ _ _ _ (a 2) (a 3) (a 4) (a 5))))
 
-row_spelled : (h l : ℕ) (bs : List ℕ) → AllBytes bs → l < 256 → h * 256 + l ≡ 9 → 9 ≤ length bs
+row_spelled : (h l : ℕ) (bs : List ℕ) → Fit bs → l < 256 → h * 256 + l ≡ 9 → 9 ≤ length bs
     → 3 ∷ h ∷ l ∷ bs ≡ field_bytes (Entry.Row (get_or bs 0 0) (four_at bs 1) (two_at bs 5) (two_at bs 7)) ++ drop 9 bs
 unfolding from
-row_spelled h l bs by k q n =
+row_spelled h l bs a k q n =
     let x : h ≡ 0 = omega arith in let y : l ≡ 9 = omega arith in
-    let a = byte_at bs by in
     rw (x, y) (ap (λ s. 3 ∷ 0 ∷ 9 ∷ s) (spell bs 9 n)
     ∙ ap (λ s. 3 ∷ 0 ∷ 9 ∷ get_or bs 0 0 ∷ (s ++ map (λ j. get_or bs j 0) (from 5 4) ++ drop 9 bs)) (sym (four_are _ _ _ _ (a 1) (a 2) (a 3) (a 4)))
     ∙ ap (λ s. 3 ∷ 0 ∷ 9 ∷ get_or bs 0 0 ∷ (four_bytes (four_at bs 1) ++ (s ++ (get_or bs 7 0 ∷ get_or bs 8 0 ∷ drop 9 bs)))) (sym (two_are _ _ (a 5) (a 6)))
     ∙ ap (λ s. 3 ∷ 0 ∷ 9 ∷ get_or bs 0 0 ∷ (four_bytes (four_at bs 1) ++ (two_bytes (two_at bs 5) ++ (s ++ drop 9 bs)))) (sym (two_are _ _ (a 7) (a 8))))
 
-value_spelled : (t h l : ℕ) (bs : List ℕ) (e : Entry) → AllBytes bs → l < 256 → value_of t (h * 256 + l) bs ≡ Ok e
+value_spelled : (t h l : ℕ) (bs : List ℕ) (e : Entry) → Fit bs → l < 256 → value_of t (h * 256 + l) bs ≡ Ok e
     → t ∷ h ∷ l ∷ bs ≡ field_bytes e ++ drop (width e) (t ∷ h ∷ l ∷ bs)
 value_spelled t h l bs e by k q =
     ⊎_elim (λ (a : eqb t 1 ≡ true).
@@ -101,14 +103,14 @@ value_spelled t h l bs e by k q =
     (cases_Bool (eqb t 2))) (cases_Bool (eqb t 1))
 
 -- what a field was read from
-pub entry_spelled : (bs : List ℕ) (e : Entry) → AllBytes bs → entry_at bs ≡ Ok e → bs ≡ field_bytes e ++ drop (width e) bs
+pub entry_spelled : (bs : List ℕ) (e : Entry) → Fit bs → entry_at bs ≡ Ok e → bs ≡ field_bytes e ++ drop (width e) bs
 unfolding entry_at
 entry_spelled [] e by q = cc
 entry_spelled (t ∷ []) e by q = cc
 entry_spelled (t ∷ h ∷ []) e by q = cc
 entry_spelled (t ∷ h ∷ l ∷ bs) e by q =
     let z : ltb (length (t ∷ h ∷ l ∷ bs)) 3 ≡ false = le-ltb _ _ (omega arith) in
-    value_spelled t h l bs e by.1.1.1 by.1.1.0 (rw z at q)
+    value_spelled t h l bs e (λ i. by (suc (suc (suc i)))) (by 2) (rw z at q)
 
 accepted : (d e : Entry) (r : Result (Unit {0}) Refusal) → taken d r ≡ Ok e → (r ≡ Ok tt) × (d ≡ e)
 accepted d e (Ok x) q = (refl, cc)
@@ -121,7 +123,7 @@ checked m bs (Ok d) e by p q =
     let b = accepted d e (entry_answer m d) a.1 in
     record {
       rest = drop (width e) bs;
-      begins = entry_spelled bs e by (p ∙ ap (λ x. Ok x) b.1);
+      begins = entry_spelled bs e (fit bs by) (p ∙ ap (λ x. Ok x) b.1);
       ordered = rw b.1 at a.0;
       call_answered = rw b.1 at b.0;
     }

@@ -7,9 +7,7 @@ ghost use Rattle.sheet.specs.Holds.{model, row_of};
 ghost use Rattle.card_writer.specs.Helpers.{held};
 
 use crate::buffer::{CardBuffer, LONGEST_CARD};
-use card::{
-    BLANK_SHARE, Entry, MODE_LENGTH, MODE_TAG, ROW_LENGTH, ROW_TAG, SETTING_LENGTH, SETTING_TAG,
-};
+use card::{BLANK_SHARE, Entry, Tag};
 use sheet::{Mode, Place, Row, Share, Sheet};
 
 impl CardBuffer {
@@ -38,15 +36,16 @@ impl CardBuffer {
         requires { length (held self.old) + 12 ≤ longest_card }
         ensures { held self.new ≡ held self.old ++ field_bytes entry }
     {
+        let [tag, hi, lo] = entry.tag().header();
         match entry {
-            Entry::Mode { letter } => self.append(&[MODE_TAG, 0, MODE_LENGTH, letter]),
+            Entry::Mode { letter } => self.append(&[tag, hi, lo, letter]),
             Entry::Setting {
                 place,
                 field,
                 value,
             } => {
                 let [a, b, c, d] = value.to_be_bytes();
-                self.append(&[SETTING_TAG, 0, SETTING_LENGTH, place, field, a, b, c, d]);
+                self.append(&[tag, hi, lo, place, field, a, b, c, d]);
             }
             Entry::Row {
                 place,
@@ -130,10 +129,11 @@ impl CardBuffer {
 fn row_bytes(place: u8, rate: u32, safe: u16, coverage: u16) -> [u8; 12]
     ensures { result ≡ field_bytes (Entry.Row place rate safe coverage) }
 {
+    let [tag, hi, lo] = Tag::Row.header();
     let [a, b, c, d] = rate.to_be_bytes();
     let [s, t] = safe.to_be_bytes();
     let [u, v] = coverage.to_be_bytes();
-    [ROW_TAG, 0, ROW_LENGTH, place, a, b, c, d, s, t, u, v]
+    [tag, hi, lo, place, a, b, c, d, s, t, u, v]
 }
 
 // A share by its number on the card.

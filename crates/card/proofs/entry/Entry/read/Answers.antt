@@ -1,29 +1,30 @@
-use Rattle.std.proofs.Common.{◌≡◌, ◌-◌, ◌≤◌, false, ltb, ◌++◌, length, get_or, take, drop, ap, ◌∙◌, rules, ltb-false}
+use Rattle.std.proofs.Common.{◌≡◌, ◌≢◌, drop, ◌∙◌, rules, arith}
+use Rattle.std.proofs.lemmas.Result.{err_from_is_err_and}
 use Rattle.std.proofs.lemmas.List.{take_rest}
-use Rattle.std.proofs.lemmas.Result.{IfOk-weaker}
-use Rattle.card.specs.Entries.{field_bytes, width}
-use Rattle.card.specs.Reading.{entry_at, value_of}
-use Rattle.card.specs.Helpers.{Spelled}
-use Rattle.card.proofs.Bytes.{field_first}
+use Rattle.card.specs.Reading.{entry_at, two_at}
+use Rattle.card.specs.Tags.{value_length}
+use Rattle.card.proofs.Bytes.{entry_tagged, entry_untagged, wrong_length}
 use Rattle.card.proofs.entry.Entry.read.Goals as goal
 
 pub returns-in_default : goal.returns-in_default
 unfolding entry_at
 returns-in_default c = search rules
 
+pub returns-in_err-tag : goal.returns-in_err-tag
+returns-in_err-tag c =
+    let p = err_from_is_err_and c.from_residual.result c.from_residual.ensures.1 in
+    rw (p.1, p.2) (entry_untagged _ _ (omega arith) c.in_err-tag.ensures)
+
+pub returns-then-from_be_bytes-from : goal.returns-then-from_be_bytes-from
+returns-then-from_be_bytes-from c =
+    let bs = c.args.bytes.now in
+    let t = c.in_ok-tag.tag in
+    let n : two_at bs 1 ≢ value_length t = omega arith in
+    wrong_length t (two_at bs 1) (drop 3 bs) n ∙ entry_tagged bs t (omega arith) c.in_ok-tag.ensures
+
 pub returns : goal.returns
-unfolding entry_at
 returns c =
     let bs = c.args.bytes.now in
-    let z : ltb (length bs) 3 ≡ false = search rules in
-    let l : 3 ≤ length bs = ltb-false _ _ z in
-    let n = c.two_bytes.ensures in
-    record {
-      value =
-          rw z
-          (c.read_value.ensures.value ∙ ap (λ n. value_of (get_or bs 0 0) n (take (length bs - 3) (drop 3 bs))) n.value
-          ∙ rw take_rest);
-      spelled =
-          IfOk-weaker _ (λ e. Spelled e (get_or bs 0 0) c.two_bytes.result (take (length bs - 3) (drop 3 bs)))
-          (λ e. bs ≡ field_bytes e ++ drop (width e) bs) (λ e s. field_first bs e _ l n.spelled s) c.read_value.ensures.spelled;
-    }
+    let t = c.in_ok-tag.tag in
+    let n : value_length t ≡ two_at bs 1 = omega arith in
+    c.read_value.ensures ∙ rw (take_rest, n) (entry_tagged bs t (omega arith) c.in_ok-tag.ensures)
