@@ -1,10 +1,11 @@
 -- What a load answers, the sheet that it leaves, and its laws.
 use Rattle.std.proofs.Common.{◌≡◌, ℕ, List, Ok, Err, sym, refl, ap, ◌∙◌}
+use Rattle.std.specs.Result.{result_unwrap_or}
 use Rattle.card.specs.declared.fault.CardRefusal.{CardRefusal}
 use Rattle.card.specs.Entries.{card}
 use Rattle.card.specs.Laws.{Loads, RefusedAt}
-use Rattle.card.specs.Loading.{answer_by, left_by, load_answer, loaded}
-use Rattle.card.specs.Reading.{read}
+use Rattle.card.specs.Loading.{load_answer, loaded}
+use Rattle.card.specs.Reading.{done, read}
 use Rattle.card.proofs.Back.{back, refuses}
 use Rattle.sheet.specs.Model.{Model}
 use Rattle.sheet.specs.Sound.{Sound}
@@ -15,10 +16,10 @@ module _ (bs : List ℕ) (k : Model) (s : Sound k) (e : card k ≡ bs) where
   is_read = sym (back k s) ∙ ap read e
 
   pub accepted_answer : Ok tt ≡ load_answer bs
-  accepted_answer = ap answer_by is_read
+  accepted_answer = ap done is_read
 
   pub accepted_after : (m n : Model) → n ≡ k → n ≡ loaded m bs
-  accepted_after m n q = q ∙ ap (left_by m) is_read
+  accepted_after m n q = q ∙ ap (λ r. result_unwrap_or r m) is_read
 
   pub accepted : (m n : Model) → n ≡ k → Loads bs m n (Ok tt)
   accepted m n q =
@@ -34,10 +35,10 @@ module _ (bs : List ℕ) (k : Model) (s : Sound k) (e : card k ≡ bs) where
 -- the bytes are refused
 module _ (bs : List ℕ) (r : CardRefusal) (h : RefusedAt bs r) (m : Model) where
   pub refused_answer : Err r ≡ load_answer bs
-  refused_answer = ap answer_by (sym (refuses bs r h))
+  refused_answer = ap done (sym (refuses bs r h))
 
   pub refused_after : m ≡ loaded m bs
-  refused_after = ap (left_by m) (sym (refuses bs r h))
+  refused_after = ap (λ r. result_unwrap_or r m) (sym (refuses bs r h))
 
   pub refused : Loads bs m m (Err r)
   refused =

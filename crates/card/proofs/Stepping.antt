@@ -1,14 +1,12 @@
 -- One field more, or the end.
-use Rattle.std.proofs.Common.{◌≡◌, ℕ, ◌+◌, ◌-◌, ◌<◌, true, false, cond, List, [], ◌∷◌, ◌++◌, length, take, drop, Some, None, Ok, Err, Option, Result, sym, refl, ap, ◌∙◌, append-nil, arith}
+use Rattle.std.proofs.Common.{◌≡◌, ℕ, ◌+◌, ◌-◌, ◌<◌, true, false, List, [], ◌∷◌, ◌++◌, length, take, drop, Ok, Err, sym, refl, ap, ◌∙◌, append-nil, arith}
 use Rattle.std.proofs.lemmas.List.{take_rest}
 use Rattle.card.specs.declared.entry.Entry.{Entry}
 use Rattle.card.specs.Entries.{card, width}
-use Rattle.card.specs.Reading.{entry_answer, entry_at, entry_made, go_on, in_order, reads, step, taken, then_checked}
-use Rattle.card.proofs.Takes.{entry_refusal, taken_is}
+use Rattle.card.specs.Reading.{entry_answer, entry_at, entry_made, go_on, in_order, reads, step, taken}
 use Rattle.card.specs.Refusals.{at_byte, card_refusal}
 use Rattle.sheet.specs.declared.fault.Refusal.{Refusal}
 use Rattle.sheet.specs.Model.{Model, new_model}
-use Rattle.sheet.specs.Refusals.{answered}
 
 pub reads_stop : (bs : List ℕ) (at : ℕ) (m : Model) (r : Refusal) → 0 < length bs → step m bs ≡ Err r → reads bs 0 at m ≡ Err (at_byte at r)
 unfolding reads
@@ -17,20 +15,11 @@ reads_stop (b ∷ bs) at m r h q = ap (λ o. go_on at o (λ x. reads bs (width x
 
 pub step_order : (m : Model) (bs : List ℕ) (e : Entry) → Ok e ≡ entry_at bs → in_order m e ≡ false → Err (card_refusal 17) ≡ step m bs
 unfolding step
-step_order m bs e q h = ap (λ b. cond b (taken e (entry_answer m e)) (Err (card_refusal 17))) (sym h) ∙ ap (then_checked m) q
+step_order m bs e q h = rw (← q, h) refl
 
-pub step_apply : (m : Model) (bs : List ℕ) (e : Entry) → Ok e ≡ entry_at bs → in_order m e ≡ true → answered (entry_refusal m e) e ≡ step m bs
+pub step_call : (m : Model) (bs : List ℕ) (e : Entry) → Ok e ≡ entry_at bs → in_order m e ≡ true → taken e (entry_answer m e) ≡ step m bs
 unfolding step
-step_apply m bs e q h =
-    sym (taken_is m e) ∙ ap (λ b. cond b (taken e (entry_answer m e)) (Err (card_refusal 17))) (sym h) ∙ ap (then_checked m) q
-
-pub no_refusal : (o : Option Refusal) (x : Unit {0}) → Ok x ≡ answered o tt → o ≡ None
-no_refusal None x q = refl
-no_refusal (Some f) x q = cc
-
-pub refused_so : (o : Option Refusal) (e : Entry) (r : Refusal) → ◌≡◌ {A = Result (Unit {0}) Refusal} (Err r) (answered o tt) → Err r ≡ answered o e
-refused_so None e r q = cc
-refused_so (Some f) e r q = cc
+step_call m bs e q h = rw (← q, h) refl
 
 pub none_left : (xs rest bs : List ℕ) → length rest ≡ 0 → xs ++ rest ≡ bs → xs ≡ bs
 none_left xs [] bs h q = sym (append-nil xs) ∙ q
@@ -43,5 +32,4 @@ new_card m bs e = rw e refl
 
 -- what stood before some bytes and a field's bytes stands before the rest of them
 pub rest_on : (xs ys bs all : List ℕ) (w v : ℕ) → w ≡ v → xs ++ drop v bs ≡ ys ++ bs → ys ++ bs ≡ all → xs ++ take (length bs - w) (drop w bs) ≡ all
-rest_on xs ys bs all w v e q r =
-    ap (λ n. xs ++ take (length bs - n) (drop n bs)) e ∙ ap (λ l. xs ++ l) (take_rest bs v) ∙ q ∙ r
+rest_on xs ys bs all w v e q r = rw (e, take_rest) (q ∙ r)

@@ -1,5 +1,6 @@
 -- These serve the contracts of private functions only: no public contract cites them.
-use Rattle.std.specs.Prelude.{◌≡◌, ℕ, ◌≤◌, Bool, true, false, not, List, ◌++◌, length, drop, is_some, Some, None, Ok, Err, Option, Result}
+use Rattle.std.specs.Prelude.{◌≡◌, ℕ, ◌≤◌, Bool, true, false, not, List, ◌++◌, length, drop, is_some, Some, None, Option, Result}
+use Rattle.std.specs.Result.{result_map_both}
 use Rattle.card.specs.declared.entry.Entry.{Entry}
 use Rattle.card.specs.declared.fault.Cause.{Cause}
 use Rattle.card.specs.Entries.{card, width}
@@ -10,8 +11,7 @@ use Rattle.sheet.specs.Model.{Model}
 
 -- what is found of one field, with the refusal in place of the cause
 abbrev pub by_refusal : {X : Type 0} → Result X Cause → Result X Refusal
-by_refusal (Ok x) = Ok x
-by_refusal (Err c) = Err (cause_refusal c)
+by_refusal r = result_map_both (λ x. x) cause_refusal r
 
 -- a setting of field f of place p may stand after the last field: at the start, after a mode, or after a setting that comes before it
 abbrev pub setting_follows : Option Entry → ℕ → ℕ → Bool
