@@ -1,5 +1,5 @@
 -- The bytes that a field was read from are its own.
-use Rattle.std.proofs.Common.{◌≡◌, ℕ, zero, suc, ◌+◌, ◌*◌, ◌<◌, ◌≤◌, true, false, ltb, List, [], ◌∷◌, ◌++◌, map, length, get_or, take, drop, Ok, Result, sym, ap, ◌∙◌, arith}
+use Rattle.std.proofs.Common.{◌≡◌, ℕ, zero, suc, ◌+◌, ◌*◌, ◌<◌, ◌≤◌, true, false, ltb, List, [], ◌∷◌, ◌++◌, map, length, get_or, take, drop, Ok, Result, sym, ap, ◌∙◌, arith, length-append}
 use Rattle.std.proofs.lemmas.Bool.{le-ltb}
 use Rattle.std.proofs.lemmas.Bool.Decides.{nat_tests}
 use Rattle.std.proofs.lemmas.List.{get_or-take, length-take-le, take-append-drop}
@@ -80,6 +80,11 @@ entry_spelled (t ∷ h ∷ []) e by q = cc
 entry_spelled (t ∷ h ∷ l ∷ bs) e by q =
     let z : ltb (length (t ∷ h ∷ l ∷ bs)) 3 ≡ false = le-ltb _ _ (omega arith) in
     value_spelled t h l bs e (λ i. by (suc (suc (suc i)))) (by 2) (rw z at q)
+
+pub field_fits : (bs : List ℕ) (e : Entry) → bs ≡ field_bytes e ++ drop (width e) bs → width e ≤ length bs
+field_fits bs e q =
+    let l : length bs ≡ width e + length (drop (width e) bs) = ap length q ∙ length-append (field_bytes e) (drop (width e) bs) in
+    omega arith
 
 -- what is accepted was read, is in order, and its call is not refused
 module _ (m : Model) (r : Result Entry Refusal) (e : Entry) (q : then_checked m r ≡ Ok e) where

@@ -10,6 +10,7 @@ use crate::tag::Tag;
 
 impl Entry {
     // The field at the start of these bytes.
+    #[tactic(auto, unfolding(crate::specs::Reading::entry_at))]
     pub(crate) fn read(bytes: &[u8]) -> Result<Entry, Cause>
         ensures { by_refusal result ≡ entry_at bytes.now }
     {

@@ -43,6 +43,7 @@ impl Entry {
 }
 
 // Reads the field at the start of these bytes onto the sheet, after the last field.
+#[tactic(auto, unfolding(crate::specs::Reading::step))]
 pub(crate) fn step(sheet: &mut Sheet, last: Option<Entry>, bytes: &[u8]) -> Result<Entry, Cause>
     requires { Last last (model sheet.old) }
     ensures value { by_refusal result ≡ step (model sheet.old) bytes.now }

@@ -1,13 +1,27 @@
-use Rattle.std.proofs.Common.{◌≡◌, ◌-◌, ◌<◌, length, sym, ap, arith, length-append, rules, Ok, Err}
+use Rattle.std.proofs.Common.{ℕ, ◌∙◌, List, [], ◌∷◌, ◌++◌, take, drop, refl, append-nil, ◌≡◌, ◌-◌, ◌<◌, length, sym, ap, arith, length-append, rules, Ok, Err}
 use Rattle.std.proofs.lemmas.Result.{err_from_is_err_and}
+use Rattle.std.proofs.lemmas.List.{take_rest}
+use Rattle.sheet.specs.Model.{Model, new_model}
 use Rattle.sheet.specs.Holds.{model}
 use Rattle.sheet.proofs.Listed.{sound}
 use Rattle.card.specs.declared.fault.CardFault.{CardFault}
 use Rattle.card.specs.Entries.{card}
 use Rattle.card.specs.Refusals.{at_byte, cause_refusal}
 use Rattle.card.proofs.Ordered.{last_start}
-use Rattle.card.proofs.Stepping.{new_card, none_left, rest_on}
 use Rattle.card.proofs.reader.read_onto.Goals as goal
+
+none_left : (xs rest bs : List ℕ) → length rest ≡ 0 → xs ++ rest ≡ bs → xs ≡ bs
+none_left xs [] bs h q = sym (append-nil xs) ∙ q
+none_left xs (r ∷ rest) bs h q = absurd (omega arith)
+
+-- a new sheet has no bytes
+new_card : (m : Model) (bs : List ℕ) → m ≡ new_model → card m ++ bs ≡ bs
+unfolding card
+new_card m bs e = rw e refl
+
+-- what stood before some bytes and a field's bytes stands before the rest of them
+rest_on : (xs ys bs all : List ℕ) (w v : ℕ) → w ≡ v → xs ++ drop v bs ≡ ys ++ bs → ys ++ bs ≡ all → xs ++ take (length bs - w) (drop w bs) ≡ all
+rest_on xs ys bs all w v e q r = rw (e, take_rest) (q ∙ r)
 
 pub loop-rest-init : goal.loop-rest-init
 loop-rest-init c = (rw c.requires last_start, new_card _ _ c.requires)
