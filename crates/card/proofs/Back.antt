@@ -5,13 +5,14 @@ use Rattle.std.proofs.lemmas.List.{set_at}
 use Rattle.std.proofs.lemmas.Bool.Decides.{nat_tests}
 use Rattle.std.specs.List.{slice_get}
 use Rattle.card.specs.declared.entry.Entry.{Entry}
-use Rattle.card.specs.Entries.{bytes, card, field_at, place_at, row_entries, row_entry, setting_entries, share, share_number}
+use Rattle.card.specs.Entries.{bytes, card, field_at, place_at, row_entries, row_entry, setting_entries, share, share_number, width}
 use Rattle.card.specs.Laws.{OneSheet, RefusedAt}
-use Rattle.card.specs.Reading.{all_before, before, in_order, read, reads}
+use Rattle.card.specs.Reading.{all_before, before, entry_made, go_on, in_order, read, reads, step}
 use Rattle.card.proofs.Takes.{entry_refusal}
-use Rattle.card.proofs.Stepping.{reads_stop}
 use Rattle.card.proofs.Written.{reads_entry}
 use Rattle.card.specs.declared.fault.CardRefusal.{CardRefusal}
+use Rattle.card.specs.Refusals.{at_byte}
+use Rattle.sheet.specs.declared.fault.Refusal.{Refusal}
 use Rattle.sheet.specs.declared.mode.Mode.{Mode}
 use Rattle.sheet.specs.Calls.{enter_refusal, over_share, set_refusal}
 use Rattle.sheet.specs.Limits.{Within, allowed}
@@ -133,6 +134,12 @@ on m s tail = back_mode m.fields m.rows tail s.all_fields_stand (within_all m.fi
 pub back : (m : Model) → Sound m → read (card m) ≡ Ok m
 unfolding reads
 back m s = ap read (sym (append-nil (card m))) ∙ on m s []
+
+-- a field that is refused ends the reading
+reads_stop : (bs : List ℕ) (at : ℕ) (m : Model) (r : Refusal) → 0 < length bs → step m bs ≡ Err r → reads bs 0 at m ≡ Err (at_byte at r)
+unfolding reads
+reads_stop [] at m r h q = absurd (omega arith)
+reads_stop (b ∷ bs) at m r h q = ap (λ o. go_on at o (λ x. reads bs (width x - 1) (at + width x) (entry_made m x))) q
 
 pub refuses : (bs : List ℕ) (r : CardRefusal) → RefusedAt bs r → read bs ≡ Err r
 refuses bs r h =

@@ -1,8 +1,6 @@
 pub mod Takes
 pub mod Limits
-pub mod Bytes
 pub mod Ordered
-pub mod Stepping
 pub mod Written
 pub mod Back
 pub mod Loads

@@ -1,6 +1,5 @@
 -- What the sheet's refusals say of the numbers that they let through.
-use Rattle.std.proofs.Common.{◌≡◌, ℕ, ◌<◌, ◌≤◌, true, false, not, eqb, [], ◌∷◌, length, is_some, Some, None, Option, sym, ⊎_elim, arith}
-use Rattle.std.proofs.lemmas.Bool.{cases_Bool, eqb-true}
+use Rattle.std.proofs.Common.{◌≡◌, ℕ, ◌<◌, ◌≤◌, true, false, not, [], ◌∷◌, length, is_some, Some, None, Option, arith}
 use Rattle.std.proofs.lemmas.Bool.Decides.{nat_tests}
 use Rattle.card.specs.Entries.{mode_letter}
 use Rattle.sheet.specs.declared.mode.Mode.{Mode}
@@ -9,7 +8,6 @@ use Rattle.sheet.specs.Limits.{allowed}
 use Rattle.sheet.specs.Model.{Model, letter_mode}
 use Rattle.sheet.specs.declared.fault.Refusal.{Refusal}
 use Rattle.sheet.specs.Refusals.{check, first_failing, refusal}
-use Rattle.sheet.proofs.Apart.{none_some}
 
 pub record InSet (p f v : ℕ) : Type 0 where
   pub place : p ≤ 7
@@ -18,8 +16,7 @@ pub record InSet (p f v : ℕ) : Type 0 where
   pub value : allowed f v ≡ true
 
 pub in_set : (p f v : ℕ) → set_refusal p f v ≡ None → InSet p f v
-in_set p f v q =
-    record { place = grind (arith, nat_tests); least = grind (arith, nat_tests); most = grind (arith, nat_tests); value = grind (arith, nat_tests) }
+in_set p f v q = grind (arith, nat_tests)
 
 pub record InRow (m : Model) (p r : ℕ) (s c : Option ℕ) : Type 0 where
   pub place : p ≤ 7
@@ -30,15 +27,7 @@ pub record InRow (m : Model) (p r : ℕ) (s c : Option ℕ) : Type 0 where
   pub room : length m.rows < 64
 
 pub in_row : (m : Model) (p r : ℕ) (s c : Option ℕ) → enter_refusal m p r s c ≡ None → InRow m p r s c
-in_row m p r s c q =
-    record {
-      place = grind (arith, nat_tests);
-      least = grind (arith, nat_tests);
-      most = grind (arith, nat_tests);
-      safe = grind (arith, nat_tests);
-      coverage = grind (arith, nat_tests);
-      room = grind (arith, nat_tests);
-    }
+in_row m p r s c q = grind (arith, nat_tests)
 
 -- the refusal of a letter that is no mode's
 abbrev pub mode_refusal : ℕ → Option Refusal
@@ -46,7 +35,4 @@ mode_refusal l = first_failing (check (not (is_some (letter_mode l))) (refusal 8
 
 -- a letter that is let through is that of a mode
 pub in_mode : (l : ℕ) → mode_refusal l ≡ None → (k : Mode) × (letter_mode l ≡ Some k) × (mode_letter k ≡ l)
-in_mode l q =
-    ⊎_elim (λ (a : eqb l 76 ≡ true). (Mode.Low, rw a, sym (eqb-true l 76 a)))
-    (λ (a : eqb l 76 ≡ false). ⊎_elim (λ (b : eqb l 72 ≡ true). (Mode.High, rw (a, b), sym (eqb-true l 72 b)))
-    (λ (b : eqb l 72 ≡ false). none_some (sym (rw (a, b) at q))) (cases_Bool (eqb l 72))) (cases_Bool (eqb l 76))
+in_mode l q = grind (arith, nat_tests)

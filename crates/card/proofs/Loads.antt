@@ -1,36 +1,52 @@
--- The laws of a load, from what was read.
-use Rattle.std.proofs.Common.{◌≡◌, ℕ, List, IfOk, IfErr, Ok, Err, Result, ap, ◌∙◌}
-use Rattle.card.specs.declared.fault.CardFault.{CardFault}
+-- What a load answers, the sheet that it leaves, and its laws.
+use Rattle.std.proofs.Common.{◌≡◌, ℕ, List, Ok, Err, sym, refl, ap, ◌∙◌}
+use Rattle.std.specs.Result.{result_unwrap_or}
+use Rattle.card.specs.declared.fault.CardRefusal.{CardRefusal}
 use Rattle.card.specs.Entries.{card}
 use Rattle.card.specs.Laws.{Loads, RefusedAt}
-use Rattle.card.specs.Loading.{answer_by, card_answer, left_by, load_answer, loaded}
-use Rattle.card.specs.Reading.{read}
-use Rattle.card.specs.Refusals.{fault_refusal}
+use Rattle.card.specs.Loading.{load_answer, loaded}
+use Rattle.card.specs.Reading.{done, read}
 use Rattle.card.proofs.Back.{back, refuses}
-use Rattle.card.specs.declared.fault.CardRefusal.{CardRefusal}
 use Rattle.sheet.specs.Model.{Model}
+use Rattle.sheet.specs.Sound.{Sound}
 
-made_told : (P : Type 0) (r : Result (Unit {0}) CardFault) → IfOk r (λ _. P) → IfOk (card_answer r) (λ _. P)
-made_told P (Ok x) h = h
-made_told P (Err f) h = tt
+-- the bytes are the card of a sheet k, and that sheet is left
+module _ (bs : List ℕ) (k : Model) (s : Sound k) (e : card k ≡ bs) where
+  is_read : Ok k ≡ read bs
+  is_read = sym (back k s) ∙ ap read e
 
-refused_told : (Q : CardRefusal → Type 0) (r : Result (Unit {0}) CardFault) → IfErr r (λ f. Q (fault_refusal f)) → IfErr (card_answer r) Q
-refused_told Q (Ok x) h = tt
-refused_told Q (Err f) h = h
+  pub accepted_answer : Ok tt ≡ load_answer bs
+  accepted_answer = ap done is_read
 
-unchanged : (R : Result Model CardRefusal) (a : Result (Unit {0}) CardRefusal) (m n : Model) → a ≡ answer_by R → n ≡ left_by m R → IfErr a (λ _. n ≡ m)
-unchanged R (Ok x) m n e q = tt
-unchanged (Ok k) (Err r) m n e q = cc
-unchanged (Err s) (Err r) m n e q = q
+  pub accepted_after : (m n : Model) → n ≡ k → n ≡ loaded m bs
+  accepted_after m n q = q ∙ ap (λ r. result_unwrap_or r m) is_read
 
-pub loads : (bs : List ℕ) (m n : Model) (r : Result (Unit {0}) CardFault) → card_answer r ≡ load_answer bs → n ≡ loaded m bs
-    → IfOk r (λ _. card n ≡ bs) → IfErr r (λ f. RefusedAt bs (fault_refusal f)) → Loads bs m n (card_answer r)
-loads bs m n r a q k f =
-    record {
-      refused_unchanged = unchanged (read bs) (card_answer r) m n a q;
-      its_card = made_told (card n ≡ bs) r k;
-      given_back = λ o s e.
-          let b : read bs ≡ Ok o = ap read e ∙ back o s in (a ∙ ap answer_by b, q ∙ ap (left_by m) b);
-      refused_there = refused_told (RefusedAt bs) r f;
-      no_other_refusal = λ x h. a ∙ ap answer_by (refuses bs x h);
-    }
+  pub accepted : (m n : Model) → n ≡ k → Loads bs m n (Ok tt)
+  accepted m n q =
+      let i = is_read in
+      record {
+        refused_unchanged = tt;
+        its_card = ap card q ∙ e;
+        given_back = λ o t d. let p = ap read d ∙ back o t in (refl, cc);
+        refused_there = tt;
+        no_other_refusal = λ x h. let p = refuses bs x h in cc;
+      }
+
+-- the bytes are refused
+module _ (bs : List ℕ) (r : CardRefusal) (h : RefusedAt bs r) (m : Model) where
+  pub refused_answer : Err r ≡ load_answer bs
+  refused_answer = ap done (sym (refuses bs r h))
+
+  pub refused_after : m ≡ loaded m bs
+  refused_after = ap (λ r. result_unwrap_or r m) (sym (refuses bs r h))
+
+  pub refused : Loads bs m m (Err r)
+  refused =
+      let q = refuses bs r h in
+      record {
+        refused_unchanged = refl;
+        its_card = tt;
+        given_back = λ o t d. let p = ap read d ∙ back o t in (cc, cc);
+        refused_there = h;
+        no_other_refusal = λ x k. let p = refuses bs x k in cc;
+      }

@@ -1,6 +1,6 @@
 -- A field in order comes last on the card so far, and then decides what may come next.
-use Rattle.std.proofs.Common.{◌≡◌, ℕ, zero, suc, ◌+◌, ◌-◌, ◌*◌, ◌<◌, ◌≤◌, Bool, true, false, ◌&&◌, eqb, List, [], ◌∷◌, ◌++◌, length, drop, set, Some, None, Option, sym, refl, ap, ◌∙◌, ⊎_elim, append_assoc, append-nil, arith, length-set}
-use Rattle.std.proofs.lemmas.Bool.{cases_Bool, eqb-true, and_parts}
+use Rattle.std.proofs.Common.{◌≡◌, ℕ, zero, suc, ◌+◌, ◌-◌, ◌*◌, ◌<◌, ◌≤◌, Bool, true, false, ◌&&◌, List, [], ◌∷◌, ◌++◌, length, drop, set, Some, None, Option, sym, refl, ap, ◌∙◌, append_assoc, append-nil, arith, length-set}
+use Rattle.std.proofs.lemmas.Bool.{and_parts}
 use Rattle.std.proofs.lemmas.Bool.Decides.{nat_tests}
 use Rattle.card.specs.declared.entry.Entry.{Entry}
 use Rattle.card.specs.Entries.{bytes, card, entries, field_at, field_bytes, mode_entries, place_at, row_entries, row_entry, setting_entries, share, share_number, width}
@@ -37,7 +37,7 @@ settings_set (Some w ∷ fs) i (suc j) p f v e h k l b =
     ap (λ s. Entry.Setting (place_at i) (field_at i) w ∷ s) (settings_set fs (suc i) j p f v (omega arith) h k (omega arith) (and_parts _ _ b).1)
 
 share_back : (s : ℕ) → share_number (share s) ≡ s
-share_back s = ⊎_elim (λ (a : eqb s 65535 ≡ true). rw (a, eqb-true s 65535 a)) (λ (a : eqb s 65535 ≡ false). rw a) (cases_Bool (eqb s 65535))
+share_back s = grind (arith, nat_tests)
 
 lines_more : (rs : List Row) (r : Row) → row_entries (rs ++ (r ∷ [])) ≡ row_entries rs ++ (row_entry r ∷ [])
 lines_more [] r = refl

@@ -1,138 +1,115 @@
 -- The bytes that a field was read from are its own.
-use Rattle.std.proofs.Common.{◌≡◌, ℕ, zero, suc, ◌+◌, ◌*◌, ◌/◌, ◌%◌, ◌<◌, ◌≤◌, Bool, true, false, cond, eqb, ltb, List, [], ◌∷◌, ◌++◌, map, length, get_or, drop, Ok, Err, Result, sym, refl, ap, ◌∙◌, ⊎_elim, add-zero, arith}
-use Rattle.std.proofs.lemmas.Bool.{cases_Bool, eqb-true, leb-true, le-ltb}
-use Rattle.std.proofs.lemmas.List.{drop_more}
+use Rattle.std.proofs.Common.{◌≡◌, ℕ, zero, suc, ◌+◌, ◌*◌, ◌<◌, ◌≤◌, true, false, ltb, List, [], ◌∷◌, ◌++◌, map, length, get_or, take, drop, Ok, Result, sym, ap, ◌∙◌, arith, length-append}
+use Rattle.std.proofs.lemmas.Bool.{le-ltb}
+use Rattle.std.proofs.lemmas.Bool.Decides.{nat_tests}
+use Rattle.std.proofs.lemmas.List.{get_or-take, length-take-le, take-append-drop}
+use Rattle.std.proofs.lemmas.List.FromFn.{fill_by_all}
+use Rattle.std.specs.List.{range_with_len}
 use Rattle.card.specs.declared.entry.Entry.{Entry}
 use Rattle.card.specs.Entries.{field_bytes, four_bytes, two_bytes, width}
 use Rattle.card.specs.Laws.{AllBytes, Taken, TakesFields}
-use Rattle.card.specs.Reading.{entry_answer, entry_at, four_at, in_order, sized, step, taken, then_checked, two_at, value_of}
-use Rattle.card.specs.Refusals.{card_refusal}
-use Rattle.card.proofs.Takes.{answer_is, entry_refusal}
-use Rattle.card.proofs.Stepping.{no_refusal}
+use Rattle.card.specs.Reading.{entry_answer, entry_at, four_at, in_order, step, then_checked, two_at, value_of}
+use Rattle.card.proofs.Takes.{no_refusal}
 use Rattle.card.proofs.Written.{step_of}
 use Rattle.sheet.specs.declared.fault.Refusal.{Refusal}
 use Rattle.sheet.specs.Model.{Model}
 
--- a test that an answer has passed
-pub passed : (b : Bool) (r : Result Entry Refusal) (x : Refusal) (e : Entry) → cond b r (Err x) ≡ Ok e → (b ≡ true) × (r ≡ Ok e)
-passed true r x e q = (refl, q)
-passed false r x e q = (cc, cc)
-
-sized_ok : (n len : ℕ) (bs : List ℕ) (d e : Entry) → sized n len bs d ≡ Ok e → (len ≡ n) × (n ≤ length bs) × (d ≡ e)
-sized_ok n len bs d e q =
-    let a = passed _ _ _ _ q in
-    let b = passed _ _ _ _ a.1 in
-    (eqb-true _ _ a.0, leb-true _ _ b.0, cc)
-
 -- the bytes of a list, one by one
-from : ℕ → ℕ → List ℕ
-from i zero = []
-from i (suc n) = i ∷ from (suc i) n
+spell : (bs : List ℕ) (n : ℕ) → n ≤ length bs → bs ≡ map (λ j. get_or bs j 0) (range_with_len 0 n) ++ drop n bs
+spell bs n h =
+    sym (take-append-drop n bs)
+    ∙ ap (λ s. s ++ drop n bs) (fill_by_all (λ j. get_or bs j 0) (take n bs) n 0 (length-take-le n bs h) (λ k l. get_or-take n bs k 0 l))
 
-spell_on : (bs : List ℕ) (n i : ℕ) → i + n ≤ length bs → drop i bs ≡ map (λ j. get_or bs j 0) (from i n) ++ drop (i + n) bs
-unfolding from
-spell_on bs zero i h = ap (λ k. drop k bs) (sym (add-zero i))
-spell_on bs (suc n) i h =
-    let e : suc i + n ≡ i + suc n = omega arith in
-    let g : i + 1 ≡ suc i = omega arith in
-    drop_more bs i 0 (omega arith) ∙ ap (λ s. get_or bs i 0 ∷ s) (ap (λ k. drop k bs) g ∙ spell_on bs n (suc i) (omega arith) ∙ ap (λ k. map (λ j. get_or bs j 0) (from (suc i) n) ++ drop k bs) e)
+-- each number is a byte, and past the end stands 0
+abbrev Fit : List ℕ → Type 0
+Fit bs = (i : ℕ) → get_or bs i 0 < 256
 
-spell : (bs : List ℕ) (n : ℕ) → n ≤ length bs → bs ≡ map (λ j. get_or bs j 0) (from 0 n) ++ drop (0 + n) bs
-spell bs n h = spell_on bs n 0 (omega arith)
-
-byte_at : (bs : List ℕ) → AllBytes bs → (i : ℕ) → get_or bs i 0 < 256
-byte_at [] by i = omega arith
-byte_at (b ∷ bs) by zero = by.0
-byte_at (b ∷ bs) by (suc i) = byte_at bs by.1 i
+fit : (bs : List ℕ) → AllBytes bs → Fit bs
+fit [] by i = omega arith
+fit (b ∷ bs) by zero = by.0
+fit (b ∷ bs) by (suc i) = fit bs by.1 i
 
 four_are : (a b c d : ℕ) → a < 256 → b < 256 → c < 256 → d < 256
     → four_bytes (a * 16777216 + b * 65536 + c * 256 + d) ≡ a ∷ b ∷ c ∷ d ∷ []
-four_are a b c d ha hb hc hd =
-    let n = a * 16777216 + b * 65536 + c * 256 + d in
-    let x : n / 16777216 % 256 ≡ a = omega arith in
-    let y : n / 65536 % 256 ≡ b = omega arith in
-    let z : n / 256 % 256 ≡ c = omega arith in
-    let w : n % 256 ≡ d = omega arith in cc
+four_are a b c d ha hb hc hd = grind arith
 
 two_are : (a b : ℕ) → a < 256 → b < 256 → two_bytes (a * 256 + b) ≡ a ∷ b ∷ []
-two_are a b ha hb =
-    let n = a * 256 + b in
-    let z : n / 256 % 256 ≡ a = omega arith in
-    let w : n % 256 ≡ b = omega arith in cc
+two_are a b ha hb = grind arith
 
-mode_spelled : (h l : ℕ) (bs : List ℕ) → h * 256 + l ≡ 1 → 1 ≤ length bs
-    → 1 ∷ h ∷ l ∷ bs ≡ field_bytes (Entry.Mode (get_or bs 0 0)) ++ drop 1 bs
-unfolding from
-mode_spelled h l bs q k = let x : h ≡ 0 = omega arith in let y : l ≡ 1 = omega arith in rw (x, y) (ap (λ s. 1 ∷ 0 ∷ 1 ∷ s) (spell bs 1 k))
+-- the tag, the length and the value of what is read
+module _ (t n : ℕ) (bs : List ℕ) where
+  is_mode : (l : ℕ) → value_of t n bs ≡ Ok (Entry.Mode l) → (t ≡ 1) × (n ≡ 1) × (1 ≤ length bs) × (l ≡ get_or bs 0 0)
+  is_mode l q = grind (arith, nat_tests)
 
-setting_spelled : (h l : ℕ) (bs : List ℕ) → AllBytes bs → l < 256 → h * 256 + l ≡ 6 → 6 ≤ length bs
-    → 2 ∷ h ∷ l ∷ bs ≡ field_bytes (Entry.Setting (get_or bs 0 0) (get_or bs 1 0) (four_at bs 2)) ++ drop 6 bs
-unfolding from
-setting_spelled h l bs by k q n =
-    let x : h ≡ 0 = omega arith in let y : l ≡ 6 = omega arith in
-    let a = byte_at bs by in
-    rw (x, y) (ap (λ s. 2 ∷ 0 ∷ 6 ∷ s) (spell bs 6 n)
-    ∙ ap (λ s. 2 ∷ 0 ∷ 6 ∷ get_or bs 0 0 ∷ get_or bs 1 0 ∷ (s ++ drop 6 bs)) (sym (four_are _ _ _ _ (a 2) (a 3) (a 4) (a 5))))
+  is_setting : (p f v : ℕ) → value_of t n bs ≡ Ok (Entry.Setting p f v)
+      → (t ≡ 2) × (n ≡ 6) × (6 ≤ length bs) × (Entry.Setting p f v ≡ Entry.Setting (get_or bs 0 0) (get_or bs 1 0) (four_at bs 2))
+  is_setting p f v q = (grind (arith, nat_tests), grind (arith, nat_tests), grind (arith, nat_tests), grind (arith, nat_tests))
 
-row_spelled : (h l : ℕ) (bs : List ℕ) → AllBytes bs → l < 256 → h * 256 + l ≡ 9 → 9 ≤ length bs
-    → 3 ∷ h ∷ l ∷ bs ≡ field_bytes (Entry.Row (get_or bs 0 0) (four_at bs 1) (two_at bs 5) (two_at bs 7)) ++ drop 9 bs
-unfolding from
-row_spelled h l bs by k q n =
-    let x : h ≡ 0 = omega arith in let y : l ≡ 9 = omega arith in
-    let a = byte_at bs by in
-    rw (x, y) (ap (λ s. 3 ∷ 0 ∷ 9 ∷ s) (spell bs 9 n)
-    ∙ ap (λ s. 3 ∷ 0 ∷ 9 ∷ get_or bs 0 0 ∷ (s ++ map (λ j. get_or bs j 0) (from 5 4) ++ drop 9 bs)) (sym (four_are _ _ _ _ (a 1) (a 2) (a 3) (a 4)))
-    ∙ ap (λ s. 3 ∷ 0 ∷ 9 ∷ get_or bs 0 0 ∷ (four_bytes (four_at bs 1) ++ (s ++ (get_or bs 7 0 ∷ get_or bs 8 0 ∷ drop 9 bs)))) (sym (two_are _ _ (a 5) (a 6)))
-    ∙ ap (λ s. 3 ∷ 0 ∷ 9 ∷ get_or bs 0 0 ∷ (four_bytes (four_at bs 1) ++ (two_bytes (two_at bs 5) ++ (s ++ drop 9 bs)))) (sym (two_are _ _ (a 7) (a 8))))
+  is_row : (p r s c : ℕ) → value_of t n bs ≡ Ok (Entry.Row p r s c)
+      → (t ≡ 3) × (n ≡ 9) × (9 ≤ length bs) × (Entry.Row p r s c ≡ Entry.Row (get_or bs 0 0) (four_at bs 1) (two_at bs 5) (two_at bs 7))
+  is_row p r s c q = (grind (arith, nat_tests), grind (arith, nat_tests), grind (arith, nat_tests), grind (arith, nat_tests))
 
-value_spelled : (t h l : ℕ) (bs : List ℕ) (e : Entry) → AllBytes bs → l < 256 → value_of t (h * 256 + l) bs ≡ Ok e
+value_spelled : (t h l : ℕ) (bs : List ℕ) (e : Entry) → Fit bs → l < 256 → value_of t (h * 256 + l) bs ≡ Ok e
     → t ∷ h ∷ l ∷ bs ≡ field_bytes e ++ drop (width e) (t ∷ h ∷ l ∷ bs)
-value_spelled t h l bs e by k q =
-    ⊎_elim (λ (a : eqb t 1 ≡ true).
-    let z = sized_ok 1 (h * 256 + l) bs (Entry.Mode (get_or bs 0 0)) e (rw a at q) in
-    rw (eqb-true t 1 a, ← z.2) (mode_spelled h l bs z.0 z.1))
-    (λ (a : eqb t 1 ≡ false). ⊎_elim (λ (b : eqb t 2 ≡ true).
-    let z = sized_ok 6 (h * 256 + l) bs (Entry.Setting (get_or bs 0 0) (get_or bs 1 0) (four_at bs 2)) e (rw (a, b) at q) in
-    rw (eqb-true t 2 b, ← z.2) (setting_spelled h l bs by k z.0 z.1))
-    (λ (b : eqb t 2 ≡ false).
-    let c = passed (eqb t 3) (sized 9 (h * 256 + l) bs (Entry.Row (get_or bs 0 0) (four_at bs 1) (two_at bs 5) (two_at bs 7))) (card_refusal 15) e (rw (a, b) at q) in
-    let z = sized_ok 9 (h * 256 + l) bs (Entry.Row (get_or bs 0 0) (four_at bs 1) (two_at bs 5) (two_at bs 7)) e c.1 in
-    rw (eqb-true t 3 c.0, ← z.2) (row_spelled h l bs by k z.0 z.1))
-    (cases_Bool (eqb t 2))) (cases_Bool (eqb t 1))
+value_spelled t h l bs (Entry.Mode m) a k q =
+    let i = is_mode t (h * 256 + l) bs m q in
+    let x : h ≡ 0 = omega (arith, i.1) in
+    let y : l ≡ 1 = omega (arith, i.1) in
+    let w = spell bs 1 i.2 in cc
+value_spelled t h l bs (Entry.Setting p f v) a k q =
+    let i = is_setting t (h * 256 + l) bs p f v q in
+    let x : h ≡ 0 = omega (arith, i.1) in
+    let y : l ≡ 6 = omega (arith, i.1) in
+    let w = spell bs 6 i.2 in
+    let z = four_are _ _ _ _ (a 2) (a 3) (a 4) (a 5) in cc
+value_spelled t h l bs (Entry.Row p r s c) a k q =
+    let i = is_row t (h * 256 + l) bs p r s c q in
+    let x : h ≡ 0 = omega (arith, i.1) in
+    let y : l ≡ 9 = omega (arith, i.1) in
+    let w = spell bs 9 i.2 in
+    let z = four_are _ _ _ _ (a 1) (a 2) (a 3) (a 4) in
+    let u = two_are _ _ (a 5) (a 6) in
+    let v = two_are _ _ (a 7) (a 8) in cc
 
 -- what a field was read from
-pub entry_spelled : (bs : List ℕ) (e : Entry) → AllBytes bs → entry_at bs ≡ Ok e → bs ≡ field_bytes e ++ drop (width e) bs
+pub entry_spelled : (bs : List ℕ) (e : Entry) → Fit bs → entry_at bs ≡ Ok e → bs ≡ field_bytes e ++ drop (width e) bs
 unfolding entry_at
 entry_spelled [] e by q = cc
 entry_spelled (t ∷ []) e by q = cc
 entry_spelled (t ∷ h ∷ []) e by q = cc
 entry_spelled (t ∷ h ∷ l ∷ bs) e by q =
     let z : ltb (length (t ∷ h ∷ l ∷ bs)) 3 ≡ false = le-ltb _ _ (omega arith) in
-    value_spelled t h l bs e by.1.1.1 by.1.1.0 (rw z at q)
+    value_spelled t h l bs e (λ i. by (suc (suc (suc i)))) (by 2) (rw z at q)
 
-accepted : (d e : Entry) (r : Result (Unit {0}) Refusal) → taken d r ≡ Ok e → (r ≡ Ok tt) × (d ≡ e)
-accepted d e (Ok x) q = (refl, cc)
-accepted d e (Err r) q = (cc, cc)
+pub field_fits : (bs : List ℕ) (e : Entry) → bs ≡ field_bytes e ++ drop (width e) bs → width e ≤ length bs
+field_fits bs e q =
+    let l : length bs ≡ width e + length (drop (width e) bs) = ap length q ∙ length-append (field_bytes e) (drop (width e) bs) in
+    omega arith
 
-checked : (m : Model) (bs : List ℕ) (r : Result Entry Refusal) (e : Entry) → AllBytes bs → entry_at bs ≡ r → then_checked m r ≡ Ok e → Taken m bs e
-checked m bs (Err c) e by p q = record { rest = []; begins = cc; ordered = cc; call_answered = cc }
-checked m bs (Ok d) e by p q =
-    let a = passed (in_order m d) (taken d (entry_answer m d)) (card_refusal 17) e q in
-    let b = accepted d e (entry_answer m d) a.1 in
-    record {
-      rest = drop (width e) bs;
-      begins = entry_spelled bs e by (p ∙ ap (λ x. Ok x) b.1);
-      ordered = rw b.1 at a.0;
-      call_answered = rw b.1 at b.0;
-    }
+-- what is accepted was read, is in order, and its call is not refused
+module _ (m : Model) (r : Result Entry Refusal) (e : Entry) (q : then_checked m r ≡ Ok e) where
+  was_read : r ≡ Ok e
+  was_read = grind arith
+
+  was_ordered : in_order m e ≡ true
+  was_ordered = grind arith
+
+  was_answered : entry_answer m e ≡ Ok tt
+  was_answered = grind arith
 
 taken_from : (m : Model) (bs : List ℕ) (e : Entry) → AllBytes bs → step m bs ≡ Ok e → Taken m bs e
 unfolding step
-taken_from m bs e by q = checked m bs (entry_at bs) e by refl q
+taken_from m bs e by q =
+    record {
+      rest = drop (width e) bs;
+      begins = entry_spelled bs e (fit bs by) (was_read m _ e q);
+      ordered = was_ordered m _ e q;
+      call_answered = was_answered m _ e q;
+    }
 
 taken_to : (m : Model) (bs : List ℕ) (e : Entry) → Taken m bs e → step m bs ≡ Ok e
 taken_to m bs e t =
-    ap (step m) t.begins ∙ step_of m e t.rest t.ordered (no_refusal (entry_refusal m e) tt (sym t.call_answered ∙ answer_is m e))
+    ap (step m) t.begins ∙ step_of m e t.rest t.ordered (no_refusal m e (sym t.call_answered))
 
 pub takes_fields : TakesFields
 takes_fields m bs e = (taken_from m bs e, taken_to m bs e)

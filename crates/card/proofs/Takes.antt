@@ -1,8 +1,9 @@
 -- What a field does as a call that is not refused.
-use Rattle.std.proofs.Common.{◌≡◌, ℕ, Some, None, Option, refl, ap}
+use Rattle.std.proofs.Common.{◌≡◌, Some, None, Ok, Option, refl, ap, ◌∙◌}
+use Rattle.std.specs.Result.{result_map_both}
 use Rattle.card.specs.declared.entry.Entry.{Entry}
 use Rattle.card.specs.Entries.{share}
-use Rattle.card.specs.Reading.{done, entry_answer, entry_made, taken}
+use Rattle.card.specs.Reading.{entry_answer, entry_made}
 use Rattle.sheet.specs.declared.fault.Refusal.{Refusal}
 use Rattle.card.proofs.Limits.{mode_refusal}
 use Rattle.sheet.specs.Calls.{enter_refusal, mode_put, set_refusal}
@@ -20,21 +21,22 @@ entry_put m (Entry.Mode l) = mode_put m l
 entry_put m (Entry.Setting p f v) = with_field m p f (Some v)
 entry_put m (Entry.Row p rate s dc) = with_row m (record { place = p; rate = rate; safe = share s; coverage = share dc })
 
-done_answered : (o : Option Refusal) (n : ℕ) → done (answered o n) ≡ answered o tt
-done_answered None n = refl
-done_answered (Some r) n = refl
+map_answered : {X Y : Type 0} (f : X → Y) (o : Option Refusal) (x : X) → result_map_both f (λ r. r) (answered o x) ≡ answered o (f x)
+map_answered f None x = refl
+map_answered f (Some r) x = refl
 
 pub answer_is : (m : Model) (e : Entry) → entry_answer m e ≡ answered (entry_refusal m e) tt
 answer_is m (Entry.Mode l) = refl
 answer_is m (Entry.Setting p f v) = refl
-answer_is m (Entry.Row p rate s dc) = done_answered (enter_refusal m p rate (share s) (share dc)) _
+answer_is m (Entry.Row p rate s dc) = map_answered _ (enter_refusal m p rate (share s) (share dc)) _
 
-taken_answered : (o : Option Refusal) (e : Entry) → taken e (answered o tt) ≡ answered o e
-taken_answered None e = refl
-taken_answered (Some r) e = refl
+answered_ok : (o : Option Refusal) (x : Unit {0}) → Ok x ≡ answered o tt → o ≡ None
+answered_ok None x q = refl
+answered_ok (Some r) x q = cc
 
-pub taken_is : (m : Model) (e : Entry) → taken e (entry_answer m e) ≡ answered (entry_refusal m e) e
-taken_is m e = rw (answer_is m e) (taken_answered (entry_refusal m e) e)
+-- an answer that tells no refusal
+pub no_refusal : (m : Model) (e : Entry) → Ok tt ≡ entry_answer m e → entry_refusal m e ≡ None
+no_refusal m e q = answered_ok (entry_refusal m e) tt (q ∙ answer_is m e)
 
 pub made_is : (m : Model) (e : Entry) → entry_refusal m e ≡ None → entry_made m e ≡ entry_put m e
 made_is m (Entry.Mode l) q = refl

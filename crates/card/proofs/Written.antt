@@ -1,26 +1,21 @@
 -- A field's bytes are read as that field.
-use Rattle.std.proofs.Common.{◌≡◌, ℕ, ◌+◌, ◌*◌, ◌/◌, ◌%◌, ◌<◌, ◌≤◌, true, false, ltb, leb, List, ◌∷◌, ◌++◌, length, None, Ok, sym, ap, ◌∙◌, arith}
-use native.Mathlib.Nat.{div-div-eq-div-mul}
-use Rattle.std.proofs.lemmas.Bool.{le-leb, le-ltb}
+use Rattle.std.proofs.Common.{◌≡◌, ℕ, ◌+◌, ◌*◌, ◌/◌, ◌%◌, ◌<◌, ◌≤◌, true, false, List, ◌++◌, None, Ok, ap, ◌∙◌, arith}
+use Rattle.std.proofs.lemmas.Nat.{from_be_bytes-to_be_bytes_2, from_be_bytes-to_be_bytes_4}
 use Rattle.std.proofs.lemmas.Bool.Decides.{nat_tests}
 use Rattle.card.specs.declared.entry.Entry.{Entry}
-use Rattle.card.specs.Entries.{field_bytes, four_bytes, share, two_bytes, width}
+use Rattle.card.specs.Entries.{field_bytes, share, width}
 use Rattle.card.specs.Reading.{entry_at, entry_made, in_order, reads, step}
-use Rattle.card.proofs.Takes.{entry_put, entry_refusal, made_is, taken_is}
-use Rattle.sheet.specs.Refusals.{answered}
+use Rattle.card.proofs.Takes.{answer_is, entry_put, entry_refusal, made_is}
 use Rattle.card.proofs.Limits.{in_row, in_set}
 use Rattle.sheet.specs.Calls.{over_share}
 use Rattle.sheet.specs.Limits.{allowed}
 use Rattle.sheet.specs.Model.{Model}
 
 four_of : (n : ℕ) → n < 4294967296 → n / 16777216 % 256 * 16777216 + n / 65536 % 256 * 65536 + n / 256 % 256 * 256 + n % 256 ≡ n
-four_of n h =
-    let a : n / 65536 ≡ n / 256 / 256 = sym (div-div-eq-div-mul n 256 256) in
-    let b : n / 16777216 ≡ n / 256 / 256 / 256 = sym (div-div-eq-div-mul (n / 256) 256 256 ∙ div-div-eq-div-mul n 256 65536) in
-    rw (a, b) (omega arith)
+four_of n h = from_be_bytes-to_be_bytes_4 n h
 
 two_of : (n : ℕ) → n ≤ 65535 → n / 256 % 256 * 256 + n % 256 ≡ n
-two_of n h = omega arith
+two_of n h = from_be_bytes-to_be_bytes_2 n (omega arith)
 
 -- numbers that their bytes can hold
 Holdable : Entry → Type 0
@@ -30,18 +25,9 @@ Holdable (Entry.Row p r s c) = (r < 4294967296) × (s ≤ 65535) × (c ≤ 65535
 
 entry_of : (e : Entry) (bs : List ℕ) → Holdable e → entry_at (field_bytes e ++ bs) ≡ Ok e
 unfolding entry_at Holdable
-entry_of (Entry.Mode l) bs h =
-    let z : ltb (length (field_bytes (Entry.Mode l) ++ bs)) 3 ≡ false = le-ltb _ _ (omega arith) in
-    let y : leb 1 (length (l ∷ bs)) ≡ true = le-leb _ _ (omega arith) in
-    rw (z, y)
-entry_of (Entry.Setting p f v) bs h =
-    let z : ltb (length (field_bytes (Entry.Setting p f v) ++ bs)) 3 ≡ false = le-ltb _ _ (omega arith) in
-    let y : leb 6 (length (p ∷ f ∷ four_bytes v ++ bs)) ≡ true = le-leb _ _ (omega arith) in
-    rw (z, y) (ap (λ n. Ok (Entry.Setting p f n)) (four_of v h))
-entry_of (Entry.Row p r s c) bs h =
-    let z : ltb (length (field_bytes (Entry.Row p r s c) ++ bs)) 3 ≡ false = le-ltb _ _ (omega arith) in
-    let y : leb 9 (length (p ∷ four_bytes r ++ two_bytes s ++ two_bytes c ++ bs)) ≡ true = le-leb _ _ (omega arith) in
-    rw (z, y) (rw (four_of r h.0, two_of s h.1, two_of c h.2))
+entry_of (Entry.Mode l) bs h = grind (arith, nat_tests)
+entry_of (Entry.Setting p f v) bs h = grind (arith, nat_tests, four_of)
+entry_of (Entry.Row p r s c) bs h = grind (arith, nat_tests, four_of, two_of)
 
 allowed_most : (f v : ℕ) → allowed f v ≡ true → v ≤ 200000
 allowed_most f v q = grind (arith, nat_tests)
@@ -58,7 +44,7 @@ taken_holdable m (Entry.Row p r s c) q =
 
 pub step_of : (m : Model) (e : Entry) (bs : List ℕ) → in_order m e ≡ true → entry_refusal m e ≡ None → step m (field_bytes e ++ bs) ≡ Ok e
 unfolding step
-step_of m e bs o q = rw (entry_of e bs (taken_holdable m e q), o) (taken_is m e ∙ ap (λ x. answered x e) q)
+step_of m e bs o q = rw (entry_of e bs (taken_holdable m e q), o, answer_is m e, q)
 
 -- one field
 reads_made : (e : Entry) (n : Model) (at : ℕ) (bs : List ℕ) → in_order n e ≡ true → entry_refusal n e ≡ None

@@ -2,6 +2,8 @@
 use Rattle.std.specs.Prelude.{ℕ, suc, ◌+◌, ◌/◌, ◌%◌, cond, List, [], ◌∷◌, ◌++◌, length, Some, None, Option, ◌==◌}
 use Rattle.std.specs.Option.{unwrap_or}
 use Rattle.card.specs.declared.entry.Entry.{Entry}
+use Rattle.card.specs.declared.tag.Tag.{Tag}
+use Rattle.card.specs.Tags.{byte_of}
 use Rattle.sheet.specs.declared.mode.Mode.{Mode}
 use Rattle.sheet.specs.Model.{Model, Row}
 
@@ -12,11 +14,14 @@ two_bytes n = n / 256 % 256 ∷ n % 256 ∷ []
 abbrev pub four_bytes : ℕ → List ℕ
 four_bytes n = n / 16777216 % 256 ∷ n / 65536 % 256 ∷ n / 256 % 256 ∷ n % 256 ∷ []
 
--- the tag of a field, and the bytes of its value
+-- the kind of a field, its byte, and the bytes of its value
+abbrev pub tag_of : Entry → Tag
+tag_of (Entry.Mode l) = Tag.Mode
+tag_of (Entry.Setting p f v) = Tag.Setting
+tag_of (Entry.Row p rate s dc) = Tag.Row
+
 abbrev pub tag : Entry → ℕ
-tag (Entry.Mode l) = 1
-tag (Entry.Setting p f v) = 2
-tag (Entry.Row p rate s dc) = 3
+tag e = byte_of (tag_of e)
 
 abbrev pub value_bytes : Entry → List ℕ
 value_bytes (Entry.Mode l) = l ∷ []

@@ -1,4 +1,5 @@
 pub mod Refusals
+pub mod Tags
 pub mod Entries
 pub mod Reading
 pub mod Loading

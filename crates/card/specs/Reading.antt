@@ -1,5 +1,6 @@
 -- How a card is read: field by field, as mode, set and enter, onto a new sheet, until the first field that is refused.
 use Rattle.std.specs.Prelude.{ℕ, zero, suc, ◌+◌, ◌-◌, ◌*◌, Bool, true, false, cond, ◌&&◌, ◌||◌, List, [], ◌∷◌, length, drop, Some, None, Ok, Err, Option, Result, ◌==◌, nat_le, nat_lt, slice_index}
+use Rattle.std.specs.Result.{result_map_both}
 use Rattle.card.specs.declared.entry.Entry.{Entry}
 use Rattle.card.specs.declared.fault.CardRefusal.{CardRefusal}
 use Rattle.card.specs.Entries.{entries, field_at, place_at, share, width}
@@ -60,9 +61,8 @@ in_order m (Entry.Setting p f v) = none m.rows && all_before 0 m.fields p f
 in_order m (Entry.Row p rate s dc) = true
 
 -- a field is a call on the sheet, mode, set or enter: what that answers, whatever it has to tell, and the sheet that it leaves
-abbrev pub done : {X : Type 0} → Result X Refusal → Result (Unit {0}) Refusal
-done (Ok x) = Ok tt
-done (Err r) = Err r
+abbrev pub done : {X E : Type 0} → Result X E → Result (Unit {0}) E
+done r = result_map_both (λ _. tt) (λ e. e) r
 
 abbrev pub entry_answer : Model → Entry → Result (Unit {0}) Refusal
 entry_answer m (Entry.Mode l) = mode_answer l
@@ -75,8 +75,7 @@ entry_made m (Entry.Setting p f v) = was_set m p f v
 entry_made m (Entry.Row p rate s dc) = entered m p rate (share s) (share dc)
 
 abbrev pub taken : Entry → Result (Unit {0}) Refusal → Result Entry Refusal
-taken e (Ok x) = Ok e
-taken e (Err r) = Err r
+taken e r = result_map_both (λ _. e) (λ r. r) r
 
 -- 17 where a field is out of order or repeated, then the refusals of the sheet
 abbrev pub then_checked : Model → Result Entry Refusal → Result Entry Refusal

@@ -1,24 +1,15 @@
 // What one field of a card says.
+ghost use Rattle.std.specs.Prelude.{◌≡◌};
+ghost use Rattle.card.specs.Entries.{tag_of, width};
 
-// The tags of the fields, and how many bytes the value of each has.
-pub const MODE_TAG: u8 = 1;
-
-pub const SETTING_TAG: u8 = 2;
-
-pub const ROW_TAG: u8 = 3;
-
-pub const MODE_LENGTH: u8 = 1;
-
-pub const SETTING_LENGTH: u8 = 6;
-
-pub const ROW_LENGTH: u8 = 9;
+use crate::tag::Tag;
 
 // How a share that is blank stands on a card.
 pub const BLANK_SHARE: u16 = 65535;
 
 // The mode by its letter; a setting, which is the value of one field of a place; or a row, whose shares are 65,535 where they are blank.
 // The numbers are as they stand on the card, within limits or not.
-#[derive(Clone, Copy)]
+#[derive(Clone, Copy, Debug, PartialEq, Eq)]
 pub enum Entry {
     Mode {
         letter: u8,
@@ -34,4 +25,25 @@ pub enum Entry {
         safe: u16,
         coverage: u16,
     },
+}
+
+impl Entry {
+    // The kind of the field.
+    pub fn tag(self) -> Tag
+        ensures { result ≡ tag_of self }
+    {
+        match self {
+            Entry::Mode { .. } => Tag::Mode,
+            Entry::Setting { .. } => Tag::Setting,
+            Entry::Row { .. } => Tag::Row,
+        }
+    }
+
+    // How many bytes the field takes.
+    pub(crate) fn width(self) -> usize
+        ensures { result ≡ width self }
+    {
+        let tag = self.tag();
+        tag.header().len() + usize::from(tag.length())
+    }
 }

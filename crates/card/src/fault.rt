@@ -35,12 +35,12 @@ impl From<Fault> for Cause {
     }
 }
 
-impl Cause {
-    // The refusal of this cause.
-    fn refusal(self) -> Refusal
-        ensures { result ≡ cause_refusal self }
-    {
-        let number = match self {
+// The refusal of a cause.
+impl From<Cause> for Refusal {
+    ghost from_gives = { λ c r. r ≡ cause_refusal c };
+
+    fn from(cause: Cause) -> Refusal {
+        let number = match cause {
             Cause::CutShort => 14,
             Cause::UnknownTag => 15,
             Cause::WrongLength => 16,
@@ -63,14 +63,14 @@ pub struct CardRefusal {
     pub byte: usize,
 }
 
-impl CardFault {
-    // The refusal of this fault: a refusal of the sheet is carried whole, with the byte of the field.
-    pub fn refusal(self) -> CardRefusal
-        ensures { result ≡ fault_refusal self }
-    {
+// The refusal of a fault: a refusal of the sheet is carried whole, with the byte of the field.
+impl From<CardFault> for CardRefusal {
+    ghost from_gives = { λ f r. r ≡ fault_refusal f };
+
+    fn from(fault: CardFault) -> CardRefusal {
         CardRefusal {
-            refusal: self.cause.refusal(),
-            byte: self.byte,
+            refusal: fault.cause.into(),
+            byte: fault.byte,
         }
     }
 }

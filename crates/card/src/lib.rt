@@ -8,12 +8,12 @@ mod fields;
 mod order;
 mod reader;
 mod steps;
+mod tag;
 
-pub use entry::{
-    BLANK_SHARE, Entry, MODE_LENGTH, MODE_TAG, ROW_LENGTH, ROW_TAG, SETTING_LENGTH, SETTING_TAG,
-};
+pub use entry::{BLANK_SHARE, Entry};
 pub use fault::{CardFault, CardRefusal, Cause};
 pub use reader::CardReader;
+pub use tag::Tag;
 
 #[cfg(test)]
 mod tests {
@@ -25,6 +25,16 @@ mod tests {
     fn interval_at(sheet: &Sheet, place: u32) -> Option<u32> {
         let values = sheet.values(Place::new(place)?);
         *values.get(0)?
+    }
+
+    #[test]
+    fn a_tag_has_a_byte_and_a_length(rt: HostRuntime) {
+        assert_eq!(rt; Tag::try_from(2).ok(), Some(Tag::Setting));
+        assert!(rt; Tag::try_from(4).is_err());
+        assert_eq!(rt; u8::from(Tag::Row), 3);
+        assert_eq!(rt; Tag::Row.length(), 9);
+        assert_eq!(rt; Tag::Setting.header(), [2, 0, 6]);
+        assert_eq!(rt; Entry::Mode { letter: 72 }.tag(), Tag::Mode);
     }
 
     #[test]
@@ -47,7 +57,7 @@ mod tests {
         let card = [1, 0, 1, 72, 2, 0, 6, 0, 9, 0, 0, 34, 56];
         let told = match reader.load(&mut sheet, &card) {
             Ok(()) => return Err(Fail::new("field 9 was accepted")),
-            Err(fault) => fault.refusal(),
+            Err(fault) => CardRefusal::from(fault),
         };
         let refusal = told.refusal;
         assert_eq!(rt; refusal.number, 6);

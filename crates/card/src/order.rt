@@ -9,21 +9,21 @@ impl Entry {
     pub(crate) fn may_follow(self, last: Option<Entry>) -> bool
         ensures { result ≡ follows last self }
     {
-        match self {
-            Entry::Mode { .. } => last.is_none(),
-            Entry::Setting { place, field, .. } => match last {
-                None => true,
-                Some(Entry::Mode { .. }) => true,
+        match (self, last) {
+            (Entry::Mode { .. }, last) => last.is_none(),
+            (Entry::Setting { .. }, None | Some(Entry::Mode { .. })) => true,
+            (
+                Entry::Setting { place, field, .. },
                 Some(
                     Entry::Setting {
                         place: last_place,
                         field: last_field,
                         ..
                     },
-                ) => last_place < place || last_place == place && last_field < field,
-                Some(Entry::Row { .. }) => false,
-            },
-            Entry::Row { .. } => true,
+                ),
+            ) => (last_place, last_field) < (place, field),
+            (Entry::Setting { .. }, Some(Entry::Row { .. })) => false,
+            (Entry::Row { .. }, _) => true,
         }
     }
 }

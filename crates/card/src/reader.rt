@@ -1,12 +1,10 @@
 // How a card is read.
-ghost use Rattle.std.specs.Prelude.{◌≡◌, ◌+◌, ◌≤◌, length, IfOk, IfErr, OnOk};
+ghost use Rattle.std.specs.Prelude.{◌≡◌, IfOk, IfErr, OnOk};
 ghost use Rattle.sheet.specs.Holds.{model};
 ghost use Rattle.sheet.specs.Model.{new_model};
 ghost use Rattle.card.specs.Entries.{card};
 ghost use Rattle.card.specs.Laws.{Loads, OneSheet, RefusedAt, TakesFields};
 ghost use Rattle.card.specs.Loading.{load_answer, loaded, card_answer};
-ghost use Rattle.card.specs.Helpers.{outcome};
-ghost use Rattle.card.specs.Reading.{read};
 ghost use Rattle.card.specs.Refusals.{fault_refusal};
 
 use crate::fault::CardFault;
@@ -14,34 +12,19 @@ use crate::steps::step;
 use sheet::Sheet;
 use std::alloc::{AllocError, Global};
 
-// The byte of a card at which its rest starts.
-fn offset(bytes: &[u8], rest: &[u8]) -> usize
-    requires { length rest.now ≤ length bytes.now }
-    ensures { result + length rest.now ≡ length bytes.now }
-{
-    bytes.len() - rest.len()
-}
-
 // Reads a whole card onto a new sheet.
 fn read_onto(sheet: &mut Sheet, bytes: &[u8]) -> Result<(), CardFault>
     requires { model sheet.old ≡ new_model }
-    ensures value { outcome result (model sheet.new) ≡ read bytes.now }
     ensures accepted { OnOk result (card (model sheet.new) ≡ bytes.now) }
     ensures refused { IfErr result (λ f. RefusedAt bytes.now (fault_refusal f)) }
 {
     let mut rest = bytes;
     let mut last = None;
     while !rest.is_empty() {
-        match step(sheet, last, rest) {
-            Err(cause) => {
-                let byte = offset(bytes, rest);
-                return Err(CardFault { byte, cause });
-            }
-            Ok(entry) => {
-                rest = &rest[entry.width()..];
-                last = Some(entry);
-            }
-        }
+        let byte = bytes.len() - rest.len();
+        let entry = step(sheet, last, rest).map_err(|cause| CardFault { byte, cause })?;
+        rest = &rest[entry.width()..];
+        last = Some(entry);
     }
     Ok(())
 }
@@ -61,19 +44,6 @@ impl CardReader {
         Ok(CardReader { draft })
     }
 
-    // Reads a card onto the draft, and exchanges it for the sheet.
-    fn replace(&mut self, sheet: &mut Sheet, bytes: &[u8]) -> Result<(), CardFault>
-        ensures answer { card_answer result ≡ load_answer bytes.now }
-        ensures after { model sheet.new ≡ loaded (model sheet.old) bytes.now }
-        ensures accepted { OnOk result (card (model sheet.new) ≡ bytes.now) }
-        ensures refused { IfErr result (λ f. RefusedAt bytes.now (fault_refusal f)) }
-    {
-        self.draft.clear();
-        read_onto(&mut self.draft, bytes)?;
-        std::mem::swap(sheet, &mut self.draft);
-        Ok(())
-    }
-
     // Reads a card onto the sheet, which changes only where the whole card is accepted.
     pub fn load(&mut self, sheet: &mut Sheet, bytes: &[u8]) -> Result<(), CardFault>
         ensures answer { card_answer result ≡ load_answer bytes.now }
@@ -82,6 +52,9 @@ impl CardReader {
         ensures fields { TakesFields }
         ensures one_sheet { OneSheet }
     {
-        self.replace(sheet, bytes)
+        self.draft.clear();
+        read_onto(&mut self.draft, bytes)?;
+        std::mem::swap(sheet, &mut self.draft);
+        Ok(())
     }
 }

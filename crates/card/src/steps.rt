@@ -1,11 +1,10 @@
 // One field of a card, put on a sheet.
-ghost use Rattle.std.specs.Prelude.{◌≡◌, ◌≤◌, ◌++◌, length, drop, IfOk, Some};
+ghost use Rattle.std.specs.Prelude.{◌≡◌, IfOk};
 ghost use Rattle.sheet.specs.Holds.{model};
 ghost use Rattle.sheet.specs.Refusals.{answer_of};
-ghost use Rattle.card.specs.Entries.{card, share, width};
-ghost use Rattle.card.specs.Helpers.{Last};
+ghost use Rattle.card.specs.Entries.{share};
+ghost use Rattle.card.specs.Helpers.{by_refusal, Last, Stepped};
 ghost use Rattle.card.specs.Reading.{entry_answer, entry_made, step};
-ghost use Rattle.card.specs.Helpers.{by_refusal};
 
 use crate::entry::{BLANK_SHARE, Entry};
 use crate::fault::Cause;
@@ -15,11 +14,7 @@ use sheet::{Fault, Sheet};
 fn share(number: u16) -> Option<u32>
     ensures { result ≡ share number }
 {
-    if number == BLANK_SHARE {
-        None
-    } else {
-        Some(u32::from(number))
-    }
+    (number != BLANK_SHARE).then_some(u32::from(number))
 }
 
 impl Entry {
@@ -40,22 +35,19 @@ impl Entry {
                 rate,
                 safe,
                 coverage,
-            } => {
-                sheet.enter(u32::from(place), rate, share(safe), share(coverage))?;
-                Ok(())
-            }
+            } => sheet
+                .enter(u32::from(place), rate, share(safe), share(coverage))
+                .map(|_| ()),
         }
     }
 }
 
 // Reads the field at the start of these bytes onto the sheet, after the last field.
+#[tactic(auto, unfolding(crate::specs::Reading::step))]
 pub(crate) fn step(sheet: &mut Sheet, last: Option<Entry>, bytes: &[u8]) -> Result<Entry, Cause>
     requires { Last last (model sheet.old) }
     ensures value { by_refusal result ≡ step (model sheet.old) bytes.now }
-    ensures long { IfOk result (λ e. width e ≤ length bytes.now) }
-    ensures after { IfOk result (λ e. model sheet.new ≡ entry_made (model sheet.old) e) }
-    ensures order { IfOk result (λ e. Last (Some e) (model sheet.new)) }
-    ensures grown { IfOk result (λ e. card (model sheet.new) ++ drop (width e) bytes.now ≡ card (model sheet.old) ++ bytes.now) }
+    ensures stepped { IfOk result (Stepped (model sheet.old) (model sheet.new) bytes.now) }
 {
     let entry = Entry::read(bytes)?;
     if !entry.may_follow(last) {

@@ -1,7 +1,7 @@
 // Holds reading and writing to every cut and every change of one byte of a short card: each is refused, or written back byte for byte.
 #![tactic(auto)]
 
-use card::CardReader;
+use card::{CardReader, CardRefusal};
 use card_writer::write;
 use sheet::Sheet;
 use std::fmt;
@@ -97,7 +97,7 @@ fn judged(reader: &mut CardReader, sheet: &mut Sheet, bytes: &[u8]) -> Verdict {
         Ok(()) if written_as(sheet, bytes) => Verdict::WrittenBack,
         Ok(()) => Verdict::WrittenOtherwise,
         Err(fault) if written_as(sheet, &CARD) => Verdict::Refused {
-            number: fault.refusal().refusal.number,
+            number: CardRefusal::from(fault).refusal.number,
             byte: fault.byte,
         },
         Err(_) => Verdict::RefusedAndChanged,

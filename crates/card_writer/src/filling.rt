@@ -6,9 +6,7 @@ ghost use Rattle.card.specs.Entries.{bytes, card, field_bytes, longest_card, mod
 ghost use Rattle.sheet.specs.Holds.{model, row_of};
 
 use crate::buffer::CardBuffer;
-use card::{
-    BLANK_SHARE, Entry, MODE_LENGTH, MODE_TAG, ROW_LENGTH, ROW_TAG, SETTING_LENGTH, SETTING_TAG,
-};
+use card::{BLANK_SHARE, Entry, Tag};
 use sheet::{Mode, Place, Row, Share, Sheet};
 
 // One field more.
@@ -17,9 +15,7 @@ fn push(card: &mut CardBuffer, entry: Entry)
     ensures { card.new.items ≡ card.old.items ++ field_bytes entry }
 {
     let added = match entry {
-        Entry::Mode { letter } => {
-            card.try_extend_from_slice(&[MODE_TAG, 0, MODE_LENGTH, letter])
-        }
+        Entry::Mode { letter } => card.try_extend_from_slice(&mode_bytes(letter)),
         Entry::Setting {
             place,
             field,
@@ -110,22 +106,32 @@ fn entry_of(row: &Row) -> Entry
     }
 }
 
+// The bytes of a mode's field.
+fn mode_bytes(letter: u8) -> [u8; 4]
+    ensures { result ≡ field_bytes (Entry.Mode letter) }
+{
+    let [tag, hi, lo] = Tag::Mode.header();
+    [tag, hi, lo, letter]
+}
+
 // The bytes of a setting's field.
 fn setting_bytes(place: u8, field: u8, value: u32) -> [u8; 9]
     ensures { result ≡ field_bytes (Entry.Setting place field value) }
 {
+    let [tag, hi, lo] = Tag::Setting.header();
     let [a, b, c, d] = value.to_be_bytes();
-    [SETTING_TAG, 0, SETTING_LENGTH, place, field, a, b, c, d]
+    [tag, hi, lo, place, field, a, b, c, d]
 }
 
 // The bytes of a row's field.
 fn row_bytes(place: u8, rate: u32, safe: u16, coverage: u16) -> [u8; 12]
     ensures { result ≡ field_bytes (Entry.Row place rate safe coverage) }
 {
+    let [tag, hi, lo] = Tag::Row.header();
     let [a, b, c, d] = rate.to_be_bytes();
     let [s, t] = safe.to_be_bytes();
     let [u, v] = coverage.to_be_bytes();
-    [ROW_TAG, 0, ROW_LENGTH, place, a, b, c, d, s, t, u, v]
+    [tag, hi, lo, place, a, b, c, d, s, t, u, v]
 }
 
 // A share by its number on the card.

@@ -1,63 +1,64 @@
-use Rattle.std.proofs.Common.{◌≡◌, ◌<◌, length, sym, refl, ap, ◌∙◌, arith, length-append, rules}
+use Rattle.std.proofs.Common.{ℕ, ◌∙◌, List, [], ◌∷◌, ◌++◌, take, drop, refl, append-nil, ◌≡◌, ◌-◌, ◌<◌, length, sym, ap, arith, length-append, rules, Ok, Err}
+use Rattle.std.proofs.lemmas.Result.{err_from_is_err_and}
+use Rattle.std.proofs.lemmas.List.{take_rest}
+use Rattle.sheet.specs.Model.{Model, new_model}
 use Rattle.sheet.specs.Holds.{model}
 use Rattle.sheet.proofs.Listed.{sound}
+use Rattle.card.specs.declared.fault.CardFault.{CardFault}
 use Rattle.card.specs.Entries.{card}
 use Rattle.card.specs.Refusals.{at_byte, cause_refusal}
 use Rattle.card.proofs.Ordered.{last_start}
-use Rattle.card.proofs.Stepping.{again, new_card, new_length, none_left, reads_end, reads_stop, rest_on}
 use Rattle.card.proofs.reader.read_onto.Goals as goal
 
+none_left : (xs rest bs : List ℕ) → length rest ≡ 0 → xs ++ rest ≡ bs → xs ≡ bs
+none_left xs [] bs h q = sym (append-nil xs) ∙ q
+none_left xs (r ∷ rest) bs h q = absurd (omega arith)
+
+-- a new sheet has no bytes
+new_card : (m : Model) (bs : List ℕ) → m ≡ new_model → card m ++ bs ≡ bs
+unfolding card
+new_card m bs e = rw e refl
+
+-- what stood before some bytes and a field's bytes stands before the rest of them
+rest_on : (xs ys bs all : List ℕ) (w v : ℕ) → w ≡ v → xs ++ drop v bs ≡ ys ++ bs → ys ++ bs ≡ all → xs ++ take (length bs - w) (drop w bs) ≡ all
+rest_on xs ys bs all w v e q r = rw (e, take_rest) (q ∙ r)
+
 pub loop-rest-init : goal.loop-rest-init
-loop-rest-init c =
-    let n = new_length (model c.args.sheet.now) c.requires in
-    (rw n (rw c.requires refl), rw c.requires last_start, new_card _ _ c.requires)
+loop-rest-init c = (rw c.requires last_start, new_card _ _ c.requires)
 
 pub loop-rest-preserved : goal.loop-rest-preserved
 loop-rest-preserved c =
-    let h : 0 < length c.loop-rest.rest.now = search rules in
-    let o = c.in-Ok.ensures in
-    let w = c.width.ensures in (
-      again _ _ _ _ _ _ c.loop-rest.invariant.0 h o.value w o.after o.long o.grown,
-      o.order,
-      rest_on _ _ _ _ _ _ w o.grown c.loop-rest.invariant.2,
-    )
+    let q : c.step.result ≡ Ok c.in_ok-entry.entry = search rules in
+    let s = rw q at c.step.ensures.stepped in
+    (s.last, rest_on _ _ _ _ _ _ c.width.ensures s.follow c.loop-rest.invariant.1)
 
-pub offset-byte-requires : goal.offset-byte-requires
-offset-byte-requires c =
-    let q = ap length c.loop-rest.invariant.2 in
-    let a = length-append (card (model c.loop-rest.sheet)) c.loop-rest.rest.now in
-    omega arith
-
-pub returns-in-Err : goal.returns-in-Err
-returns-in-Err c =
+pub returns-in_err-entry : goal.returns-in_err-entry
+returns-in_err-entry c =
+    let f : CardFault = c.in_err-entry.field-0.0 in
+    let q : c.step.result ≡ Err f.cause = search rules in
+    let b : f.byte ≡ length c.args.bytes.now - length c.loop-rest.rest.now = search rules in
+    let p = err_from_is_err_and c.from_residual.result c.from_residual.ensures.1 in
     let h : 0 < length c.loop-rest.rest.now = search rules in
-    let v = sym c.in-Err.ensures.value in
-    let i = c.loop-rest.invariant in
     let s = c.loop-rest.sheet in
-    let n : c.offset-byte.result ≡ length (card (model s)) =
-    (let q = ap length i.2 in let a = length-append (card (model s)) c.loop-rest.rest.now in omega (arith, c.offset-byte.ensures)) in
-    let e = ap (λ b. at_byte b (cause_refusal c.in-Err.cause)) n in
-    record {
-      value = rw n (sym (reads_stop _ _ _ _ h v) ∙ i.0);
+    let l = ap length c.loop-rest.invariant.1 in
+    let a = length-append (card (model s)) c.loop-rest.rest.now in
+    let n : f.byte ≡ length (card (model s)) = omega arith in
+    rw (p.1, p.2) (record {
       accepted = tt;
       refused =
           record {
             so_far = model s;
             is_sound = sound s;
             rest = c.loop-rest.rest.now;
-            begins = sym i.2;
+            begins = sym c.loop-rest.invariant.1;
             more = h;
-            why = cause_refusal c.in-Err.cause;
-            refused_here = v;
-            with_byte = e;
+            why = cause_refusal f.cause;
+            refused_here = sym (rw q at c.step.ensures.value);
+            with_byte = ap (λ k. at_byte k (cause_refusal f.cause)) n;
           };
-    }
+    })
 
 pub returns : goal.returns
 returns c =
     let h : length c.loop-rest.rest.now ≡ 0 = search rules in
-    record {
-      value = sym (reads_end _ _ _ h) ∙ c.loop-rest.invariant.0;
-      accepted = none_left _ _ _ h c.loop-rest.invariant.2;
-      refused = tt;
-    }
+    record { accepted = none_left _ _ _ h c.loop-rest.invariant.1; refused = tt }

@@ -1,15 +1,34 @@
+use Rattle.std.proofs.Common.{rules}
+use Rattle.std.proofs.lemmas.Result.{err_from_is_err_and}
+use Rattle.sheet.specs.Holds.{model}
+use Rattle.sheet.proofs.Listed.{sound}
 use Rattle.card.proofs.Back.{one_sheet}
-use Rattle.card.proofs.Loads.{loads}
+use Rattle.card.proofs.Loads.{accepted, accepted_after, accepted_answer, refused, refused_after, refused_answer}
 use Rattle.card.proofs.Spelling.{takes_fields}
 use Rattle.card.proofs.reader.CardReader.load.Goals as goal
 
+pub returns-in_err-read_onto : goal.returns-in_err-read_onto
+returns-in_err-read_onto c =
+    let p = err_from_is_err_and c.from_residual.result c.from_residual.ensures.1 in
+    let m = model c.args.sheet.now in
+    let h = c.in_err-read_onto.ensures.refused in
+    rw (p.1, p.2)
+    (record {
+      answer = refused_answer _ _ h m;
+      after = refused_after _ _ h m;
+      loads = refused _ _ h m;
+      fields = takes_fields;
+      one_sheet = one_sheet;
+    })
+
 pub returns : goal.returns
 returns c =
-    let h = c.replace.ensures in
+    let s = sound c.read_onto.new.sheet in
+    let e = c.in_ok-read_onto.ensures.accepted in
     record {
-      answer = h.answer;
-      after = h.after;
-      loads = loads _ _ _ c.replace.result h.answer h.after h.accepted h.refused;
+      answer = accepted_answer _ _ s e;
+      after = accepted_after _ _ s e _ _ (search rules);
+      loads = accepted _ _ s e _ _ (search rules);
       fields = takes_fields;
       one_sheet = one_sheet;
     }
