@@ -2,13 +2,15 @@
 use Rattle.std.proofs.Common.{◌≡◌, ℕ, List, Ok, Err, sym, refl, ap, ◌∙◌}
 use Rattle.std.specs.Result.{result_unwrap_or}
 use Rattle.card.specs.declared.fault.CardRefusal.{CardRefusal}
-use Rattle.card.specs.Entries.{card}
+use Rattle.card.specs.declared.entry.Entry.{Entry}
+use Rattle.card.specs.Entries.{card, share}
 use Rattle.card.specs.Laws.{Loads, RefusedAt}
 use Rattle.card.specs.Loading.{load_answer, loaded}
-use Rattle.card.specs.Reading.{done, read}
+use Rattle.card.specs.Reading.{done, entry_made, read}
 use Rattle.card.proofs.Back.{back, refuses}
 use Rattle.sheet.specs.Model.{Model}
 use Rattle.sheet.specs.Sound.{Sound}
+use Rattle.sheet.proofs.Sounds.{sound_entered, sound_mode, sound_set}
 
 -- the bytes are the card of a sheet k, and that sheet is left
 module _ (bs : List ℕ) (k : Model) (s : Sound k) (e : card k ≡ bs) where
@@ -50,3 +52,9 @@ module _ (bs : List ℕ) (r : CardRefusal) (h : RefusedAt bs r) (m : Model) wher
         refused_there = h;
         no_other_refusal = λ x k. let p = refuses bs x k in cc;
       }
+
+-- what a field makes of a sound sheet is sound
+pub made_sound : (m : Model) (e : Entry) → Sound m → Sound (entry_made m e)
+made_sound m (Entry.Mode l) s = sound_mode m l s
+made_sound m (Entry.Setting p f v) s = sound_set m p f v s
+made_sound m (Entry.Row p rate a b) s = sound_entered m p rate (share a) (share b) s

@@ -3,12 +3,13 @@ use Rattle.std.specs.Prelude.{ℕ, None}
 use Rattle.card.specs.declared.fault.CardFault.{CardFault}
 use Rattle.card.specs.declared.fault.CardRefusal.{CardRefusal}
 use Rattle.card.specs.declared.fault.Cause.{Cause}
+use Rattle.sheet.specs.declared.fault.Layer.{Layer}
 use Rattle.sheet.specs.declared.fault.Refusal.{Refusal}
 use Rattle.sheet.specs.Refusals.{refusal_of}
 
--- a refusal of the card, which is layer 4 and names neither place nor item
+-- a refusal of the card, which names neither place nor item
 abbrev pub card_refusal : ℕ → Refusal
-card_refusal n = record { number = n; place = None; item = None; layer = 4 }
+card_refusal n = record { number = n; place = None; item = None; layer = Layer.Card }
 
 -- a refusal with the byte at which the refused field starts, the first byte of a card being 0
 abbrev pub at_byte : ℕ → Refusal → CardRefusal

@@ -3,7 +3,7 @@ ghost use Rattle.std.specs.Prelude.{◌≡◌};
 ghost use Rattle.card.specs.Refusals.{cause_refusal, fault_refusal};
 ghost use Rattle.card.specs.declared.fault.Cause.TheVariants.{Sheet as CauseSheet};
 
-use sheet::{Fault, Refusal};
+use sheet::{Fault, Layer, Refusal};
 
 // What is wrong with a field of a card.
 #[derive(Clone, Copy)]
@@ -45,13 +45,13 @@ impl From<Cause> for Refusal {
             Cause::UnknownTag => 15,
             Cause::WrongLength => 16,
             Cause::OutOfOrder => 17,
-            Cause::Sheet(fault) => return fault.refusal(),
+            Cause::Sheet(fault) => return fault.into(),
         };
         Refusal {
             number,
             place: None,
             item: None,
-            layer: 4,
+            layer: Layer::Card,
         }
     }
 }

@@ -63,7 +63,7 @@ mod tests {
         assert_eq!(rt; refusal.number, 6);
         assert_eq!(rt; refusal.place, Some(0));
         assert_eq!(rt; refusal.item, Some(9));
-        assert_eq!(rt; refusal.layer, 1);
+        assert_eq!(rt; u8::from(refusal.layer), 1);
         assert_eq!(rt; told.byte, 4);
         assert!(rt; sheet.mode().is_none());
         Ok(())

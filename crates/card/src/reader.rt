@@ -1,7 +1,7 @@
 // How a card is read.
 ghost use Rattle.std.specs.Prelude.{◌≡◌, IfOk, IfErr, OnOk};
-ghost use Rattle.sheet.specs.Holds.{model};
 ghost use Rattle.sheet.specs.Model.{new_model};
+ghost use Rattle.sheet.specs.Sound.{Sound};
 ghost use Rattle.card.specs.Entries.{card};
 ghost use Rattle.card.specs.Laws.{Loads, OneSheet, RefusedAt, TakesFields};
 ghost use Rattle.card.specs.Loading.{load_answer, loaded, card_answer};
@@ -14,8 +14,9 @@ use std::alloc::{AllocError, Global};
 
 // Reads a whole card onto a new sheet.
 fn read_onto(sheet: &mut Sheet, bytes: &[u8]) -> Result<(), CardFault>
-    requires { model sheet.old ≡ new_model }
-    ensures accepted { OnOk result (card (model sheet.new) ≡ bytes.now) }
+    requires { sheet.old ≡ new_model }
+    ensures accepted { OnOk result (card sheet.new ≡ bytes.now) }
+    ensures sound { OnOk result (Sound sheet.new) }
     ensures refused { IfErr result (λ f. RefusedAt bytes.now (fault_refusal f)) }
 {
     let mut rest = bytes;
@@ -38,7 +39,7 @@ pub struct CardReader {
 impl CardReader {
     // A reader with the memory that it will ever want; the error is want of memory.
     pub fn new(heap: Global) -> Result<CardReader, AllocError>
-        ensures { IfOk result (λ k. model k.draft ≡ new_model) }
+        ensures { IfOk result (λ k. k.draft ≡ new_model) }
     {
         let draft = Sheet::new(heap)?;
         Ok(CardReader { draft })
@@ -47,8 +48,8 @@ impl CardReader {
     // Reads a card onto the sheet, which changes only where the whole card is accepted.
     pub fn load(&mut self, sheet: &mut Sheet, bytes: &[u8]) -> Result<(), CardFault>
         ensures answer { card_answer result ≡ load_answer bytes.now }
-        ensures after { model sheet.new ≡ loaded (model sheet.old) bytes.now }
-        ensures loads { Loads bytes.now (model sheet.old) (model sheet.new) (card_answer result) }
+        ensures after { sheet.new ≡ loaded sheet.old bytes.now }
+        ensures loads { Loads bytes.now sheet.old sheet.new (card_answer result) }
         ensures fields { TakesFields }
         ensures one_sheet { OneSheet }
     {

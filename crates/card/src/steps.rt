@@ -1,6 +1,5 @@
 // One field of a card, put on a sheet.
 ghost use Rattle.std.specs.Prelude.{◌≡◌, IfOk};
-ghost use Rattle.sheet.specs.Holds.{model};
 ghost use Rattle.sheet.specs.Refusals.{answer_of};
 ghost use Rattle.card.specs.Entries.{share};
 ghost use Rattle.card.specs.Helpers.{by_refusal, Last, Stepped};
@@ -20,8 +19,8 @@ fn share(number: u16) -> Option<u32>
 impl Entry {
     // Puts on the sheet what the field says.
     fn apply(self, sheet: &mut Sheet) -> Result<(), Fault>
-        ensures answer { answer_of result ≡ entry_answer (model sheet.old) self }
-        ensures after { model sheet.new ≡ entry_made (model sheet.old) self }
+        ensures answer { answer_of result ≡ entry_answer sheet.old self }
+        ensures after { sheet.new ≡ entry_made sheet.old self }
     {
         match self {
             Entry::Mode { letter } => sheet.set_mode(char::from(letter)),
@@ -45,9 +44,9 @@ impl Entry {
 // Reads the field at the start of these bytes onto the sheet, after the last field.
 #[tactic(auto, unfolding(crate::specs::Reading::step))]
 pub(crate) fn step(sheet: &mut Sheet, last: Option<Entry>, bytes: &[u8]) -> Result<Entry, Cause>
-    requires { Last last (model sheet.old) }
-    ensures value { by_refusal result ≡ step (model sheet.old) bytes.now }
-    ensures stepped { IfOk result (Stepped (model sheet.old) (model sheet.new) bytes.now) }
+    requires { Last last sheet.old }
+    ensures value { by_refusal result ≡ step sheet.old bytes.now }
+    ensures stepped { IfOk result (Stepped sheet.old sheet.new bytes.now) }
 {
     let entry = Entry::read(bytes)?;
     if !entry.may_follow(last) {

@@ -3,7 +3,7 @@ use Rattle.std.proofs.Common.{◌≡◌, ℕ, zero, suc, ◌+◌, ◌%◌, Bool,
 use Rattle.std.proofs.lemmas.Bool.{and_parts}
 use Rattle.std.specs.List.{slice_get}
 use Rattle.card.specs.Entries.{card}
-use Rattle.sheet.proofs.Apart.{none_some}
+use Rattle.std.proofs.lemmas.Option.{none-some}
 use Rattle.sheet.specs.declared.mode.Mode.{Mode}
 use Rattle.sheet.specs.Limits.{Within, allowed, allowed_or_blank}
 use Rattle.sheet.specs.Model.{Model, Row}
@@ -16,7 +16,7 @@ all_allowed i [] = true
 all_allowed i (x ∷ fs) = allowed_or_blank (i % 8 + 1) x && all_allowed (suc i) fs
 
 within_from : (fs : List (Option ℕ)) (i : ℕ) → all_allowed i fs ≡ true → (j v : ℕ) → get_or fs j None ≡ Some v → allowed ((i + j) % 8 + 1) v ≡ true
-within_from [] i h j v e = none_some e
+within_from [] i h j v e = absurd (none-some _ e)
 within_from (x ∷ fs) i h zero v e = let a = (and_parts (allowed_or_blank (i % 8 + 1) x) (all_allowed (suc i) fs) h).0 in rw (add-zero i) (rw e at a)
 within_from (x ∷ fs) i h (suc j) v e =
     let a = (and_parts (allowed_or_blank (i % 8 + 1) x) (all_allowed (suc i) fs) h).1 in
@@ -42,12 +42,12 @@ full_row_within =
       place_within = omega arith;
       rate_least = omega arith;
       rate_most = omega arith;
-      safe_within = λ x e. none_some e;
-      coverage_within = λ x e. none_some e;
+      safe_within = λ x e. absurd (none-some _ e);
+      coverage_within = λ x e. absurd (none-some _ e);
     }
 
 each_row : (n k : ℕ) (r : Row) → slice_get (replicate n full_row) k ≡ Some r → RowWithin r
-each_row zero k r e = none_some e
+each_row zero k r e = absurd (none-some _ e)
 each_row (suc n) zero r e = let q : full_row ≡ r = cc in let P : Row → Type 0 = RowWithin in subst P q full_row_within
 each_row (suc n) (suc k) r e = each_row n k r e
 

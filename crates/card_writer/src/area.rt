@@ -2,22 +2,22 @@
 ghost use Rattle.std.specs.Prelude.{◌≡◌};
 ghost use Rattle.card.specs.Refusals.{card_refusal};
 
-use sheet::Refusal;
+use sheet::{Layer, Refusal};
 
 // The area is shorter than the card.
 #[derive(Clone, Copy)]
 pub struct AreaShort;
 
-impl AreaShort {
-    // The refusal, which names nothing.
-    pub fn refusal(self) -> Refusal
-        ensures { result ≡ card_refusal 18 }
-    {
+// The refusal, which names nothing.
+impl From<AreaShort> for Refusal {
+    ghost from_gives = { λ _ r. r ≡ card_refusal 18 };
+
+    fn from(_: AreaShort) -> Refusal {
         Refusal {
             number: 18,
             place: None,
             item: None,
-            layer: 4,
+            layer: Layer::Card,
         }
     }
 }

@@ -3,7 +3,8 @@ ghost use Rattle.std.specs.Prelude.{◌≡◌, ◌*◌, ◌≤◌, ◌++◌, len
 ghost use Rattle.std.specs.Option.{option_map};
 ghost use Rattle.card.specs.declared.entry.Entry.{Entry};
 ghost use Rattle.card.specs.Entries.{bytes, card, field_bytes, longest_card, mode_entries, mode_letter, row_entry, setting_entries, share_number};
-ghost use Rattle.sheet.specs.Holds.{model, row_of};
+ghost use Rattle.sheet.specs.Holds.{row_of};
+ghost use Rattle.sheet.specs.Sound.{Sound};
 
 use crate::buffer::CardBuffer;
 use card::{BLANK_SHARE, Entry, Tag};
@@ -64,7 +65,8 @@ fn with_mode(mode: Option<Mode>) -> CardBuffer
 
 // A card with the mode and the settings of all places.
 fn with_settings(sheet: &Sheet) -> CardBuffer
-    ensures { result.items ≡ bytes (mode_entries (model sheet.now).mode) ++ bytes (setting_entries 0 (model sheet.now).fields) }
+    requires { Sound sheet.now }
+    ensures { result.items ≡ bytes (mode_entries sheet.now.mode) ++ bytes (setting_entries 0 sheet.now.fields) }
 {
     let mut card = with_mode(sheet.mode());
     for place in (0..8).filter_map(Place::new) {
@@ -75,10 +77,12 @@ fn with_settings(sheet: &Sheet) -> CardBuffer
 
 // The card of a sheet.
 pub(crate) fn card_of(sheet: &Sheet) -> CardBuffer
-    ensures { result.items ≡ card (model sheet.now) }
+    ensures value { result.items ≡ card sheet.now }
+    ensures sound { Sound sheet.now }
 {
+    let rows = sheet.rows();
     let mut card = with_settings(sheet);
-    for row in sheet.rows() {
+    for row in rows {
         push(&mut card, entry_of(row));
     }
     card

@@ -13,7 +13,7 @@ pub use writer::write;
 #[cfg(test)]
 mod tests {
     use super::*;
-    use sheet::Sheet;
+    use sheet::{Refusal, Sheet};
     use std::test::Fail;
 
     #[test]
@@ -33,7 +33,7 @@ mod tests {
         let mut area = [7; 12];
         assert!(rt; write(&sheet, &mut area[..11]).is_err());
         assert_eq!(rt; area, [7; 12]);
-        assert_eq!(rt; AreaShort.refusal().number, 18);
+        assert_eq!(rt; Refusal::from(AreaShort).number, 18);
         assert_eq!(rt; write(&sheet, &mut area).ok(), Some(12));
         assert_eq!(rt; area, [3, 0, 9, 7, 0, 0, 1, 0, 255, 255, 0, 1]);
         Ok(())

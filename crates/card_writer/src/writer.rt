@@ -1,6 +1,6 @@
 // How a card is written.
 ghost use Rattle.std.specs.Prelude.{◌≡◌};
-ghost use Rattle.sheet.specs.Holds.{model};
+ghost use Rattle.sheet.specs.Sound.{Sound};
 ghost use Rattle.card_writer.specs.Laws.{LongestReached, Writes};
 ghost use Rattle.card_writer.specs.Writing.{area_answer, write_answer, written};
 
@@ -10,8 +10,9 @@ use sheet::Sheet;
 
 // The card of the sheet at the start of the area, and its length; or nothing, where the area is shorter.
 fn put_card(sheet: &Sheet, area: &mut [u8]) -> Result<usize, AreaShort>
-    ensures answer { area_answer result ≡ write_answer (model sheet.now) area.old }
-    ensures after { area.new ≡ written (model sheet.now) area.old }
+    ensures answer { area_answer result ≡ write_answer sheet.now area.old }
+    ensures after { area.new ≡ written sheet.now area.old }
+    ensures sound { Sound sheet.now }
 {
     let card = card_of(sheet);
     if area.len() < card.len() {
@@ -24,9 +25,9 @@ fn put_card(sheet: &Sheet, area: &mut [u8]) -> Result<usize, AreaShort>
 // Writes the card of the sheet at the start of the area, keeps the rest of the area, and answers the card's length; writes nothing where
 // the area is shorter than the card.
 pub fn write(sheet: &Sheet, area: &mut [u8]) -> Result<usize, AreaShort>
-    ensures answer { area_answer result ≡ write_answer (model sheet.now) area.old }
-    ensures after { area.new ≡ written (model sheet.now) area.old }
-    ensures writes { Writes (model sheet.now) area.old area.new (area_answer result) }
+    ensures answer { area_answer result ≡ write_answer sheet.now area.old }
+    ensures after { area.new ≡ written sheet.now area.old }
+    ensures writes { Writes sheet.now area.old area.new (area_answer result) }
     ensures longest { LongestReached }
 {
     put_card(sheet, area)

@@ -33,7 +33,7 @@ pub within_set : (fs : List (Option ℕ)) (j : ℕ) (v : Option ℕ) → ((u : �
 within_set fs j v ok h i u e =
     ⊎_elim (λ q. rw q.0 (ok u (sym q.1 ∙ e))) (λ q. h i u (sym q ∙ e)) (get_set fs j v i)
 
-allowed_some : (f : ℕ) (v : Option ℕ) (u : ℕ) → v ≡ Some u → allowed_or_blank f v ≡ true → allowed f u ≡ true
+pub allowed_some : (f : ℕ) (v : Option ℕ) (u : ℕ) → v ≡ Some u → allowed_or_blank f v ≡ true → allowed f u ≡ true
 allowed_some f v u e h = rw e at h
 
 pub setting_within : (s : Setting) → (1 ≤ setting_number s) × (setting_number s ≤ 8)

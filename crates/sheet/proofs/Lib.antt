@@ -5,3 +5,4 @@ pub mod Listed
 pub mod Summed
 pub mod Kept
 pub mod Showing
+pub mod Sounds

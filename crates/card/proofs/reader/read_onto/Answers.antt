@@ -2,11 +2,11 @@ use Rattle.std.proofs.Common.{ℕ, ◌∙◌, List, [], ◌∷◌, ◌++◌, tak
 use Rattle.std.proofs.lemmas.Result.{err_from_is_err_and}
 use Rattle.std.proofs.lemmas.List.{take_rest}
 use Rattle.sheet.specs.Model.{Model, new_model}
-use Rattle.sheet.specs.Holds.{model}
-use Rattle.sheet.proofs.Listed.{sound}
+use Rattle.sheet.proofs.Sounds.{sound_new}
 use Rattle.card.specs.declared.fault.CardFault.{CardFault}
 use Rattle.card.specs.Entries.{card}
 use Rattle.card.specs.Refusals.{at_byte, cause_refusal}
+use Rattle.card.proofs.Loads.{made_sound}
 use Rattle.card.proofs.Ordered.{last_start}
 use Rattle.card.proofs.reader.read_onto.Goals as goal
 
@@ -24,13 +24,13 @@ rest_on : (xs ys bs all : List ℕ) (w v : ℕ) → w ≡ v → xs ++ drop v bs 
 rest_on xs ys bs all w v e q r = rw (e, take_rest) (q ∙ r)
 
 pub loop-rest-init : goal.loop-rest-init
-loop-rest-init c = (rw c.requires last_start, new_card _ _ c.requires)
+loop-rest-init c = (rw c.requires last_start, rw c.requires sound_new, new_card _ _ c.requires)
 
 pub loop-rest-preserved : goal.loop-rest-preserved
 loop-rest-preserved c =
     let q : c.step.result ≡ Ok c.in_ok-entry.entry = search rules in
     let s = rw q at c.step.ensures.stepped in
-    (s.last, rest_on _ _ _ _ _ _ c.width.ensures s.follow c.loop-rest.invariant.1)
+    (s.last, rw s.made (made_sound _ c.in_ok-entry.entry c.loop-rest.invariant.1), rest_on _ _ _ _ _ _ c.width.ensures s.follow c.loop-rest.invariant.2)
 
 pub returns-in_err-entry : goal.returns-in_err-entry
 returns-in_err-entry c =
@@ -40,17 +40,18 @@ returns-in_err-entry c =
     let p = err_from_is_err_and c.from_residual.result c.from_residual.ensures.1 in
     let h : 0 < length c.loop-rest.rest.now = search rules in
     let s = c.loop-rest.sheet in
-    let l = ap length c.loop-rest.invariant.1 in
-    let a = length-append (card (model s)) c.loop-rest.rest.now in
-    let n : f.byte ≡ length (card (model s)) = omega arith in
+    let l = ap length c.loop-rest.invariant.2 in
+    let a = length-append (card s) c.loop-rest.rest.now in
+    let n : f.byte ≡ length (card s) = omega arith in
     rw (p.1, p.2) (record {
       accepted = tt;
+      sound = tt;
       refused =
           record {
-            so_far = model s;
-            is_sound = sound s;
+            so_far = s;
+            is_sound = c.loop-rest.invariant.1;
             rest = c.loop-rest.rest.now;
-            begins = sym c.loop-rest.invariant.1;
+            begins = sym c.loop-rest.invariant.2;
             more = h;
             why = cause_refusal f.cause;
             refused_here = sym (rw q at c.step.ensures.value);
@@ -61,4 +62,4 @@ returns-in_err-entry c =
 pub returns : goal.returns
 returns c =
     let h : length c.loop-rest.rest.now ≡ 0 = search rules in
-    record { accepted = none_left _ _ _ h c.loop-rest.invariant.1; refused = tt }
+    record { accepted = none_left _ _ _ h c.loop-rest.invariant.2; sound = c.loop-rest.invariant.1; refused = tt }

@@ -1,6 +1,5 @@
 use Rattle.std.proofs.Common.{◌≡◌, ◌*◌, ◌≤◌, ◌++◌, drop}
 use Rattle.card.specs.Entries.{bytes, mode_entries, setting_entries}
-use Rattle.sheet.specs.Holds.{model}
 use Rattle.card_writer.proofs.filling.with_settings.Given as goal
 
 abbrev pub invariant-loop-place : goal.invariant-loop-place
@@ -9,5 +8,5 @@ invariant-loop-place l =
     × (goal.iterator-loop-place).is_finite l.place-iterator
     × (l.place-iterator.iter.end ≡ 8)
     × (l.place-iterator.iter.start ≤ 8)
-    × (l.card.items ++ bytes (setting_entries (8 * l.place-iterator.iter.start) (drop (8 * l.place-iterator.iter.start) (model l.sheet).fields))
-    ≡ bytes (mode_entries (model l.sheet).mode) ++ bytes (setting_entries 0 (model l.sheet).fields))
+    × (l.card.items ++ bytes (setting_entries (8 * l.place-iterator.iter.start) (drop (8 * l.place-iterator.iter.start) l.sheet.fields))
+    ≡ bytes (mode_entries l.sheet.mode) ++ bytes (setting_entries 0 l.sheet.fields))

@@ -1,5 +1,3 @@
-use Rattle.sheet.specs.Holds.{model}
-use Rattle.sheet.proofs.Listed.{sound}
 use Rattle.card_writer.proofs.Longest.{longest_reached}
 use Rattle.card_writer.proofs.Writes.{writes}
 use Rattle.card_writer.proofs.writer.write.Goals as goal
@@ -11,6 +9,6 @@ returns c =
     record {
       answer = h.answer;
       after = h.after;
-      writes = writes (model s) (sound s) c.args.area.now _ _ h.answer h.after;
+      writes = writes s h.sound c.args.area.now _ _ h.answer h.after;
       longest = longest_reached;
     }

@@ -1,7 +1,5 @@
 use Rattle.std.proofs.Common.{rules}
 use Rattle.std.proofs.lemmas.Result.{err_from_is_err_and}
-use Rattle.sheet.specs.Holds.{model}
-use Rattle.sheet.proofs.Listed.{sound}
 use Rattle.card.proofs.Back.{one_sheet}
 use Rattle.card.proofs.Loads.{accepted, accepted_after, accepted_answer, refused, refused_after, refused_answer}
 use Rattle.card.proofs.Spelling.{takes_fields}
@@ -10,7 +8,7 @@ use Rattle.card.proofs.reader.CardReader.load.Goals as goal
 pub returns-in_err-read_onto : goal.returns-in_err-read_onto
 returns-in_err-read_onto c =
     let p = err_from_is_err_and c.from_residual.result c.from_residual.ensures.1 in
-    let m = model c.args.sheet.now in
+    let m = c.args.sheet.now in
     let h = c.in_err-read_onto.ensures.refused in
     rw (p.1, p.2)
     (record {
@@ -23,7 +21,7 @@ returns-in_err-read_onto c =
 
 pub returns : goal.returns
 returns c =
-    let s = sound c.read_onto.new.sheet in
+    let s = c.in_ok-read_onto.ensures.sound in
     let e = c.in_ok-read_onto.ensures.accepted in
     record {
       answer = accepted_answer _ _ s e;
