@@ -18,7 +18,7 @@ pub(crate) trait FromWord: Sized {
 fn is_numeral(word: &str) -> bool
     ensures { result ≡ is_numeral word.now }
 {
-    !word.is_empty() && word.as_bytes().iter().all(u8::is_ascii_digit)
+    !word.is_empty() && word.bytes().all(|b| b.is_ascii_digit())
 }
 
 // A number is written by digits, and by no sign.
