@@ -7,6 +7,7 @@ use crate::calls::NotCall;
 
 // A value that a word can write.
 pub(crate) trait FromWord: Sized {
+    // the value that a word writes, or why it writes none
     ghost value_of: { List ℕ → Result Self NotCall };
 
     // Reads the value from the word.

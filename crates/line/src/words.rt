@@ -37,6 +37,7 @@ impl<'a> Words<'a> {
     }
 }
 
+// Each turn cuts the first word from the text.
 impl<'a> Iterator for Words<'a> {
     type Item = &'a str;
 
