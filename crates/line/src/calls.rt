@@ -92,7 +92,7 @@ impl fmt::Display for Call {
     }
 }
 
-// By hand, since a derived error promises nothing of its text.
+// Written out, since a derived error promises nothing of its text.
 impl fmt::Display for NotCall {
     ghost output = { λ n. Some (not_call_text n) };
 

@@ -7,6 +7,7 @@ use crate::calls::NotCall;
 
 // A value that a word can write.
 pub(crate) trait FromWord: Sized {
+    // the value that a word writes, or why it writes none
     ghost value_of: { List ℕ → Result Self NotCall };
 
     // Reads the value from the word.
@@ -18,7 +19,7 @@ pub(crate) trait FromWord: Sized {
 fn is_numeral(word: &str) -> bool
     ensures { result ≡ is_numeral word.now }
 {
-    !word.is_empty() && word.as_bytes().iter().all(u8::is_ascii_digit)
+    !word.is_empty() && word.bytes().all(|b| b.is_ascii_digit())
 }
 
 // A number is written by digits, and by no sign.

@@ -20,7 +20,7 @@ impl<'a> Model for Words<'a> {
     ghost view = { λ w. words w.text.now };
 }
 
-// White space as `char` knows it takes in more.
+// Of the white space that `char` knows, these four alone stand between words.
 fn is_blank(c: char) -> bool
     ensures { result ≡ blank c }
 {
@@ -37,6 +37,7 @@ impl<'a> Words<'a> {
     }
 }
 
+// Each turn cuts the first word from the text.
 impl<'a> Iterator for Words<'a> {
     type Item = &'a str;
 
