@@ -1,5 +1,6 @@
 -- The kinds of fields, which their tags name.
-use Rattle.std.specs.Prelude.{ℕ, cond, Ok, Err, Result, ◌==◌}
+use Rattle.std.specs.Prelude.{ℕ, [], ◌∷◌, find, Result, ◌==◌}
+use Rattle.std.specs.Option.{ok_or}
 use Rattle.card.specs.declared.fault.Cause.{Cause}
 use Rattle.card.specs.declared.tag.Tag.{Tag}
 
@@ -17,4 +18,4 @@ value_length Tag.Row = 9
 
 -- the tag that has this byte, if one has it
 abbrev pub tag_at : ℕ → Result Tag Cause
-tag_at b = cond (b == 1) (Ok Tag.Mode) (cond (b == 2) (Ok Tag.Setting) (cond (b == 3) (Ok Tag.Row) (Err Cause.UnknownTag)))
+tag_at b = ok_or (find (λ t. byte_of t == b) (Tag.Mode ∷ Tag.Setting ∷ Tag.Row ∷ [])) Cause.UnknownTag
