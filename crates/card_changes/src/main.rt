@@ -27,24 +27,27 @@ enum Verdict {
     RefusedAndChanged,
 }
 
-// How often each verdict was given, and for each refusal, by its number, the sum of the bytes that were told.
+// How often a refusal was given, and the sum of the bytes that were told.
+#[derive(Clone, Copy)]
+struct Refusals {
+    count: u32,
+    bytes: usize,
+}
+
+// How often each verdict was given; the refusals by their numbers.
 #[derive(Clone, Copy)]
 struct Tally {
     written_back: u32,
     wrong: u32,
-    refused: [u32; 20],
-    bytes: [usize; 20],
+    refused: [Refusals; 20],
 }
 
 impl Tally {
-    fn new() -> Tally {
-        Tally {
-            written_back: 0,
-            wrong: 0,
-            refused: [0; 20],
-            bytes: [0; 20],
-        }
-    }
+    const NONE: Tally = Tally {
+        written_back: 0,
+        wrong: 0,
+        refused: [Refusals { count: 0, bytes: 0 }; 20],
+    };
 
     fn count(&mut self, verdict: Verdict) {
         match verdict {
@@ -53,10 +56,9 @@ impl Tally {
                 self.wrong = self.wrong.saturating_add(1);
             }
             Verdict::Refused { number, byte } => {
-                let number = usize::from(number);
-                if number < 20 {
-                    self.refused[number] = self.refused[number].saturating_add(1);
-                    self.bytes[number] = self.bytes[number].saturating_add(byte);
+                if let Some(refusals) = self.refused.get_mut(usize::from(number)) {
+                    refusals.count = refusals.count.saturating_add(1);
+                    refusals.bytes = refusals.bytes.saturating_add(byte);
                 }
             }
         }
@@ -68,9 +70,9 @@ impl fmt::Display for Tally {
         let back = self.written_back;
         let wrong = self.wrong;
         write!(f, "{back} written back, {wrong} wrong")?;
-        for number in 0..20 {
-            let count = self.refused[number];
-            let bytes = self.bytes[number];
+        for (number, refusals) in self.refused.iter().enumerate() {
+            let count = refusals.count;
+            let bytes = refusals.bytes;
             if count > 0 {
                 write!(f, ", {count} refused {number} at bytes of sum {bytes}")?;
             }
@@ -107,19 +109,17 @@ fn judged(reader: &mut CardReader, sheet: &mut Sheet, bytes: &[u8]) -> Verdict {
 fn main(rt: HostRuntime) -> anyhow::Result<()> {
     let mut sheet = Sheet::new(rt.alloc())?;
     let mut reader = CardReader::new(rt.alloc())?;
-    let mut cuts = Tally::new();
+    let mut cuts = Tally::NONE;
     for end in 0..=LENGTH {
         cuts.count(judged(&mut reader, &mut sheet, &CARD[..end]));
     }
     println!(rt; "cuts: {cuts}")?;
-    let mut changes = Tally::new();
-    for at in 0..LENGTH {
-        for byte in 0..=255 {
+    let mut changes = Tally::NONE;
+    for (at, kept) in CARD.iter().enumerate() {
+        for byte in (0..=255).filter(|byte| byte != kept) {
             let mut card = CARD;
-            if card[at] != byte {
-                card[at] = byte;
-                changes.count(judged(&mut reader, &mut sheet, &card));
-            }
+            card[at] = byte;
+            changes.count(judged(&mut reader, &mut sheet, &card));
         }
     }
     println!(rt; "changes: {changes}")?;

@@ -1,5 +1,5 @@
 -- A new sheet is sound, and a call leaves a sound sheet sound.
-use Rattle.std.proofs.Common.{◌≡◌, ℕ, zero, suc, ◌+◌, ◌-◌, ◌*◌, ◌%◌, ◌≤◌, Bool, true, false, cond, not, ◌||◌, leb, ltb, List, [], ◌∷◌, ◌++◌, length, Some, None, Option, sym, refl, ◌∙◌, subst, arith, length-append}
+use Rattle.std.proofs.Common.{◌≡◌, ℕ, zero, suc, ◌+◌, ◌-◌, ◌*◌, ◌%◌, Bool, true, false, cond, not, ◌||◌, leb, ltb, List, [], ◌∷◌, ◌++◌, length, Some, None, Option, sym, refl, ◌∙◌, subst, arith, length-append}
 use Rattle.std.proofs.lemmas.Bool.{leb-false, ltb-false, or_parts}
 use Rattle.std.proofs.lemmas.List.{length-set}
 use Rattle.std.proofs.lemmas.Option.{none-some}
@@ -52,23 +52,23 @@ allowed_true false h = sym h
 pub sound_set : (m : Model) (p f v : ℕ) → Sound m → Sound (was_set m p f v)
 sound_set m p f v s =
     after_sound (set_refusal p f v) m (with_field m p f (Some v)) s (λ e.
-        let z = cond (not (allowed f v)) (Some (refusal 7 (Some p) (Some f))) None in
-        let y = cond (ltb f 1 || ltb 8 f) (Some (refusal 6 (Some p) (Some f))) z in
-        let a = passes (ltb 7 p) (refusal 1 (Some p) (Some f)) y e in
-        let b = passes (ltb f 1 || ltb 8 f) (refusal 6 (Some p) (Some f)) z a.1 in
-        let c = passes (not (allowed f v)) (refusal 7 (Some p) (Some f)) None b.1 in
-        let q = or_parts (ltb f 1) (ltb 8 f) b.0 in
-        let l = ltb-false f 1 q.0 in
-        let n = ltb-false 8 f q.1 in
-        let i : (8 * p + (f - 1)) % 8 + 1 ≡ f = omega arith in
-        record {
-          all_fields_stand = length-set m.fields (8 * p + (f - 1)) (Some v) ∙ s.all_fields_stand;
-          settings_within =
-              within_set m.fields (8 * p + (f - 1)) (Some v) (λ u k. rw i (allowed_some f (Some v) u k (allowed_true (allowed f v) c.0)))
-              s.settings_within;
-          few_rows = s.few_rows;
-          rows_within = s.rows_within;
-        })
+    let z = cond (not (allowed f v)) (Some (refusal 7 (Some p) (Some f))) None in
+    let y = cond (ltb f 1 || ltb 8 f) (Some (refusal 6 (Some p) (Some f))) z in
+    let a = passes (ltb 7 p) (refusal 1 (Some p) (Some f)) y e in
+    let b = passes (ltb f 1 || ltb 8 f) (refusal 6 (Some p) (Some f)) z a.1 in
+    let c = passes (not (allowed f v)) (refusal 7 (Some p) (Some f)) None b.1 in
+    let q = or_parts (ltb f 1) (ltb 8 f) b.0 in
+    let l = ltb-false f 1 q.0 in
+    let n = ltb-false 8 f q.1 in
+    let i : (8 * p + (f - 1)) % 8 + 1 ≡ f = omega arith in
+    record {
+      all_fields_stand = length-set m.fields (8 * p + (f - 1)) (Some v) ∙ s.all_fields_stand;
+      settings_within =
+          within_set m.fields (8 * p + (f - 1)) (Some v) (λ u k. rw i (allowed_some f (Some v) u k (allowed_true (allowed f v) c.0)))
+          s.settings_within;
+      few_rows = s.few_rows;
+      rows_within = s.rows_within;
+    })
 
 share_within : (o : Option ℕ) → over_share o ≡ false → ShareWithin o
 share_within None h x e = absurd (none-some _ e)
@@ -86,27 +86,27 @@ pub sound_entered : (m : Model) (p rate : ℕ) (safe coverage : Option ℕ) → 
 sound_entered m p rate safe coverage s =
     let r : Row = record { place = p; rate = rate; safe = safe; coverage = coverage } in
     after_sound (enter_refusal m p rate safe coverage) m (with_row m r) s (λ e.
-        let n = length m.rows in
-        let x = cond (leb 64 n) (Some (refusal 4 (Some p) None)) None in
-        let y = cond (over_share safe || over_share coverage) (Some (refusal 3 (Some p) None)) x in
-        let z = cond (ltb rate 1 || ltb 100000000 rate) (Some (refusal 2 (Some p) None)) y in
-        let a = passes (ltb 7 p) (refusal 1 (Some p) None) z e in
-        let b = passes (ltb rate 1 || ltb 100000000 rate) (refusal 2 (Some p) None) y a.1 in
-        let c = passes (over_share safe || over_share coverage) (refusal 3 (Some p) None) x b.1 in
-        let d = passes (leb 64 n) (refusal 4 (Some p) None) None c.1 in
-        let q = or_parts (ltb rate 1) (ltb 100000000 rate) b.0 in
-        let t = or_parts (over_share safe) (over_share coverage) c.0 in
-        let w : RowWithin r =
-        record {
-          place_within = ltb-false 7 p a.0;
-          rate_least = ltb-false rate 1 q.0;
-          rate_most = ltb-false 100000000 rate q.1;
-          safe_within = share_within safe t.0;
-          coverage_within = share_within coverage t.1;
-        } in
-        record {
-          all_fields_stand = s.all_fields_stand;
-          settings_within = s.settings_within;
-          few_rows = omega (arith, length-append m.rows (r ∷ []), leb-false 64 n d.0);
-          rows_within = pushed_within m.rows r s.rows_within w;
-        })
+    let n = length m.rows in
+    let x = cond (leb 64 n) (Some (refusal 4 (Some p) None)) None in
+    let y = cond (over_share safe || over_share coverage) (Some (refusal 3 (Some p) None)) x in
+    let z = cond (ltb rate 1 || ltb 100000000 rate) (Some (refusal 2 (Some p) None)) y in
+    let a = passes (ltb 7 p) (refusal 1 (Some p) None) z e in
+    let b = passes (ltb rate 1 || ltb 100000000 rate) (refusal 2 (Some p) None) y a.1 in
+    let c = passes (over_share safe || over_share coverage) (refusal 3 (Some p) None) x b.1 in
+    let d = passes (leb 64 n) (refusal 4 (Some p) None) None c.1 in
+    let q = or_parts (ltb rate 1) (ltb 100000000 rate) b.0 in
+    let t = or_parts (over_share safe) (over_share coverage) c.0 in
+    let w : RowWithin r =
+    record {
+      place_within = ltb-false 7 p a.0;
+      rate_least = ltb-false rate 1 q.0;
+      rate_most = ltb-false 100000000 rate q.1;
+      safe_within = share_within safe t.0;
+      coverage_within = share_within coverage t.1;
+    } in
+    record {
+      all_fields_stand = s.all_fields_stand;
+      settings_within = s.settings_within;
+      few_rows = omega (arith, length-append m.rows (r ∷ []), leb-false 64 n d.0);
+      rows_within = pushed_within m.rows r s.rows_within w;
+    })
