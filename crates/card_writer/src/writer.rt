@@ -15,6 +15,7 @@ fn put_card(sheet: &Sheet, area: &mut [u8]) -> Result<usize, AreaShort>
     ensures sound { Sound sheet.now }
 {
     let card = card_of(sheet);
+    // `get_mut` of a range says nothing of the area after the write, so the length is compared first.
     if area.len() < card.len() {
         return Err(AreaShort);
     }
