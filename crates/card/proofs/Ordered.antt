@@ -1,6 +1,8 @@
 -- A field in order comes last on the card so far, and then decides what may come next.
 use Rattle.std.proofs.Common.{◌≡◌, ℕ, zero, suc, ◌+◌, ◌-◌, ◌*◌, ◌<◌, ◌≤◌, Bool, true, false, ◌&&◌, List, [], ◌∷◌, ◌++◌, length, drop, set, Some, None, Option, sym, refl, ap, ◌∙◌, append_assoc, append-nil, arith, length-set}
 use Rattle.std.proofs.lemmas.Bool.{and_parts}
+use Rattle.std.proofs.lemmas.List.{map-append}
+use Rattle.std.proofs.lemmas.List.Concat.{flat_map-append}
 use Rattle.std.proofs.lemmas.Bool.Decides.{nat_tests}
 use Rattle.card.specs.declared.entry.Entry.{Entry}
 use Rattle.card.specs.Entries.{bytes, card, entries, field_at, field_bytes, mode_entries, place_at, row_entries, row_entry, setting_entries, share, share_number, width}
@@ -39,10 +41,6 @@ settings_set (Some w ∷ fs) i (suc j) p f v e h k l b =
 share_back : (s : ℕ) → share_number (share s) ≡ s
 share_back s = grind (arith, nat_tests)
 
-lines_more : (rs : List Row) (r : Row) → row_entries (rs ++ (r ∷ [])) ≡ row_entries rs ++ (row_entry r ∷ [])
-lines_more [] r = refl
-lines_more (q ∷ rs) r = ap (λ s. row_entry q ∷ s) (lines_more rs r)
-
 letter_last : (o : Option Mode) (xs : List Entry) (l : ℕ) → none (mode_entries o ++ xs) ≡ true → Entry.Mode l ∷ xs ≡ (mode_entries o ++ xs) ++ (Entry.Mode l ∷ [])
 letter_last None [] l h = refl
 letter_last None (x ∷ xs) l h = cc
@@ -63,12 +61,10 @@ grows n (Entry.Setting p g v) f o q =
     let i = in_set p g v q in
     rw (no_lines n.rows a.0, settings_set n.fields 0 (8 * p + (g - 1)) p g v (omega arith) i.least i.most (omega (arith, i)) a.1) (simp (append-nil, append_assoc))
 grows n (Entry.Row p r s c) f o q =
-    rw (lines_more n.rows (record { place = p; rate = r; safe = share s; coverage = share c }), share_back s, share_back c) (simp append_assoc)
+    rw (map-append row_entry n.rows (record { place = p; rate = r; safe = share s; coverage = share c } ∷ []), share_back s, share_back c) (simp append_assoc)
 
 pub bytes_append : (es ds : List Entry) → bytes (es ++ ds) ≡ bytes es ++ bytes ds
-bytes_append [] ds = refl
-bytes_append (e ∷ es) ds =
-    ap (λ l. field_bytes e ++ l) (bytes_append es ds) ∙ sym (append_assoc (field_bytes e) (bytes es) (bytes ds))
+bytes_append es ds = flat_map-append field_bytes es ds
 
 -- and its bytes last on the card
 pub card_grows : (n : Model) (e : Entry) → length n.fields ≡ 64 → in_order n e ≡ true → entry_refusal n e ≡ None
@@ -106,10 +102,7 @@ rows_one [] r = refl
 rows_one (x ∷ rs) r = refl
 
 and_trans : (a b : Bool) → (b ≡ true → a ≡ true) → (a && b) ≡ b
-and_trans true true h = refl
-and_trans true false h = refl
-and_trans false true h = h refl
-and_trans false false h = refl
+and_trans a b h = grind arith
 
 before_trans : (q g p f p' f' : ℕ) → before q g p f ≡ true → before p f p' f' ≡ true → before q g p' f' ≡ true
 before_trans q g p f p' f' h k = grind (arith, nat_tests)
@@ -122,11 +115,7 @@ all_before_set (None ∷ fs) i zero p f v p' f' e h k l b =
     let x : place_at i ≡ p = omega arith in
     let y : field_at i ≡ f = omega arith in
     let z = settings_none fs (suc i) p' f' (ap none (none_after fs (suc i) p f (omega arith) h b)) in
-    rw (x, y) (and_trans' (before p f p' f') _ z)
-  where
-    and_trans' : (a b : Bool) → b ≡ true → (a && b) ≡ a
-    and_trans' true b h = h
-    and_trans' false b h = refl
+    rw (x, y) (grind arith)
 all_before_set (Some w ∷ fs) i zero p f v p' f' e h k l b =
     let l = before_less (place_at i) (field_at i) p f (and_parts _ _ b).0 (omega arith) h in absurd (omega arith)
 all_before_set (None ∷ fs) i (suc j) p f v p' f' e h k l b = all_before_set fs (suc i) j p f v p' f' (omega arith) h k (omega arith) b

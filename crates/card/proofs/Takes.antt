@@ -1,5 +1,5 @@
 -- What a field does as a call that is not refused.
-use Rattle.std.proofs.Common.{◌≡◌, Some, None, Ok, Option, refl, ap, ◌∙◌}
+use Rattle.std.proofs.Common.{◌≡◌, Some, None, Ok, Option, refl, ap, ◌∙◌, arith}
 use Rattle.std.specs.Result.{result_map_both}
 use Rattle.card.specs.declared.entry.Entry.{Entry}
 use Rattle.card.specs.Entries.{share}
@@ -30,13 +30,9 @@ answer_is m (Entry.Mode l) = refl
 answer_is m (Entry.Setting p f v) = refl
 answer_is m (Entry.Row p rate s dc) = map_answered _ (enter_refusal m p rate (share s) (share dc)) _
 
-answered_ok : (o : Option Refusal) (x : Unit {0}) → Ok x ≡ answered o tt → o ≡ None
-answered_ok None x q = refl
-answered_ok (Some r) x q = cc
-
 -- an answer that tells no refusal
 pub no_refusal : (m : Model) (e : Entry) → Ok tt ≡ entry_answer m e → entry_refusal m e ≡ None
-no_refusal m e q = answered_ok (entry_refusal m e) tt (q ∙ answer_is m e)
+no_refusal m e q = let a = q ∙ answer_is m e in grind arith
 
 pub made_is : (m : Model) (e : Entry) → entry_refusal m e ≡ None → entry_made m e ≡ entry_put m e
 made_is m (Entry.Mode l) q = refl

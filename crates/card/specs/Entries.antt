@@ -1,5 +1,6 @@
 -- The fields of a sheet's card, and their bytes.
-use Rattle.std.specs.Prelude.{ℕ, suc, ◌+◌, ◌/◌, ◌%◌, cond, List, [], ◌∷◌, ◌++◌, length, Some, None, Option, ◌==◌}
+use Rattle.std.specs.Prelude.{ℕ, suc, ◌+◌, ◌/◌, ◌%◌, cond, List, [], ◌∷◌, ◌++◌, map, length, Some, None, Option, ◌==◌}
+use Rattle.std.specs.List.{flat_map}
 use Rattle.std.specs.Option.{unwrap_or}
 use Rattle.card.specs.declared.entry.Entry.{Entry}
 use Rattle.card.specs.declared.tag.Tag.{Tag}
@@ -33,8 +34,7 @@ abbrev pub field_bytes : Entry → List ℕ
 field_bytes e = tag e ∷ two_bytes (length (value_bytes e)) ++ value_bytes e
 
 abbrev pub bytes : List Entry → List ℕ
-bytes [] = []
-bytes (e ∷ es) = field_bytes e ++ bytes es
+bytes es = flat_map field_bytes es
 
 -- how many bytes a field takes
 abbrev pub width : Entry → ℕ
@@ -73,8 +73,7 @@ abbrev pub row_entry : Row → Entry
 row_entry r = Entry.Row r.place r.rate (share_number r.safe) (share_number r.coverage)
 
 abbrev pub row_entries : List Row → List Entry
-row_entries [] = []
-row_entries (r ∷ rs) = row_entry r ∷ row_entries rs
+row_entries rs = map row_entry rs
 
 -- the mode first, then the settings rising by place and field, then the rows in order of entry
 abbrev pub entries : Model → List Entry
