@@ -81,8 +81,8 @@ impl Sheet {
         ensures after { self.new ≡ with_field self.old place.number (setting_number setting) (setting_value setting) }
         ensures one_field { OneField place.number (setting_number setting) (setting_value setting) self.old self.new (Ok tt) }
     {
-        let at = usize::from(place.number);
-        self.places[at] = self.places[at].with(setting);
+        let record = &mut self.places[usize::from(place.number)];
+        record.put(setting);
     }
 
     // Fills one field of one place.

@@ -37,25 +37,19 @@ impl PlaceRecord {
         voting: None,
     };
 
-    // This record with one field written.
-    pub(crate) fn with(self, setting: Setting) -> PlaceRecord
-        ensures { fields_of result ≡ slice_set (fields_of self) (setting_number setting - 1) (setting_value setting) }
+    // Writes one field.
+    pub(crate) fn put(&mut self, setting: Setting)
+        ensures { fields_of self.new ≡ slice_set (fields_of self.old) (setting_number setting - 1) (setting_value setting) }
     {
         match setting {
-            Setting::ProofTestInterval(v) => PlaceRecord {
-                proof_test_interval: v,
-                ..self
-            },
-            Setting::Mttr(v) => PlaceRecord { mttr: v, ..self },
-            Setting::Mrt(v) => PlaceRecord { mrt: v, ..self },
-            Setting::Beta(v) => PlaceRecord { beta: v, ..self },
-            Setting::BetaD(v) => PlaceRecord { beta_d: v, ..self },
-            Setting::K(v) => PlaceRecord { k: v, ..self },
-            Setting::ComponentType(v) => PlaceRecord {
-                component_type: v,
-                ..self
-            },
-            Setting::Voting(v) => PlaceRecord { voting: v, ..self },
+            Setting::ProofTestInterval(v) => self.proof_test_interval = v,
+            Setting::Mttr(v) => self.mttr = v,
+            Setting::Mrt(v) => self.mrt = v,
+            Setting::Beta(v) => self.beta = v,
+            Setting::BetaD(v) => self.beta_d = v,
+            Setting::K(v) => self.k = v,
+            Setting::ComponentType(v) => self.component_type = v,
+            Setting::Voting(v) => self.voting = v,
         }
     }
 

@@ -13,22 +13,22 @@ invariant_of-self c =
     let s = c.self.inside in
     let h = c.self.invariant in
     let l = setting_within c.args.setting in record {
-      eight = length-set s.places c.from-at.result c.with.result ∙ h.eight;
+      eight = length-set s.places c.from.result c.put.new.self ∙ h.eight;
       settings =
-          changed_within s.places c.from-at.result (setting_number c.args.setting) (setting_value c.args.setting) _
-          c.with.result l.0 l.1 refl c.with.ensures c.requires h.settings;
+          changed_within s.places c.from.result (setting_number c.args.setting) (setting_value c.args.setting) _
+          c.put.new.self l.0 l.1 refl c.put.ensures c.requires h.settings;
       few = h.few;
     }
 
-after : (c : goal.After-with) → model_of (record { mode = c.self.inside.mode; places = slice_set c.self.inside.places c.from-at.result c.with.result; rows = c.self.inside.rows }) ≡ with_field (model_of c.self.inside) c.args.place.number (setting_number c.args.setting) (setting_value c.args.setting)
+after : (c : goal.After-put) → model_of (record { mode = c.self.inside.mode; places = slice_set c.self.inside.places c.from.result c.put.new.self; rows = c.self.inside.rows }) ≡ with_field (model_of c.self.inside) c.args.place.number (setting_number c.args.setting) (setting_value c.args.setting)
 after c =
     let s = c.self.inside in
     let m = model_of s in
     let l = setting_within c.args.setting in
     let g : List (Option ℕ) → Model = λ fs. record { mode = m.mode; fields = fs; rows = m.rows } in
-    rw (← c.from-at.ensures)
-    (ap g (changed s.places c.from-at.result (setting_number c.args.setting) (setting_value c.args.setting) _ c.with.result l.0 l.1 refl
-    c.with.ensures))
+    rw (← c.from.ensures)
+    (ap g (changed s.places c.from.result (setting_number c.args.setting) (setting_value c.args.setting) _ c.put.new.self l.0 l.1 refl
+    c.put.ensures))
 
 pub returns-clause-after : goal.returns-clause-after
 returns-clause-after c = rw (← c.self.view_is) (after c)
