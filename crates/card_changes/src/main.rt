@@ -110,6 +110,7 @@ fn main(rt: HostRuntime) -> anyhow::Result<()> {
     let mut sheet = Sheet::new(rt.alloc())?;
     let mut reader = CardReader::new(rt.alloc())?;
     let mut cuts = Tally::NONE;
+    // a cut is told by its length, and no slice can list its own cuts
     for end in 0..=LENGTH {
         cuts.count(judged(&mut reader, &mut sheet, &CARD[..end]));
     }

@@ -1,4 +1,4 @@
-// The calls that change a sheet.
+// The calls that change a sheet. Their numbers are as they were keyed in, within limits or not, since a wrong one has its own refusal.
 ghost use Rattle.std.specs.Prelude.{◌≡◌, true, IfOk, Ok, Some, None};
 ghost use Rattle.sheet.specs.Limits.{allowed_or_blank};
 ghost use Rattle.sheet.specs.Model.{new_model, with_field};
