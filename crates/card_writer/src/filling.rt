@@ -88,7 +88,7 @@ pub(crate) fn card_of(sheet: &Sheet) -> CardBuffer
     card
 }
 
-// The letter of a mode.
+// The letter of a mode. This, `entry_of` and `share_number` are no `From`, since neither of their types is of this crate.
 fn letter(mode: Mode) -> u8
     ensures { result ≡ mode_letter mode }
 {

@@ -36,7 +36,7 @@ impl Share {
 }
 
 impl Row {
-    // The row of these numbers, if each is within its limits.
+    // The row of these numbers, if each is within its limits. The four are no struct, since they go no further than from `enter` to here.
     pub(crate) fn new(
         place: u32,
         rate: u32,
