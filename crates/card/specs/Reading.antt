@@ -3,8 +3,11 @@ use Rattle.std.specs.Prelude.{ℕ, zero, suc, ◌+◌, ◌-◌, ◌*◌, Bool, t
 use Rattle.std.specs.Result.{result_map_both}
 use Rattle.card.specs.declared.entry.Entry.{Entry}
 use Rattle.card.specs.declared.fault.CardRefusal.{CardRefusal}
+use Rattle.card.specs.declared.fault.Cause.{Cause}
+use Rattle.card.specs.declared.tag.Tag.{Tag}
+use Rattle.card.specs.Tags.{tag_at, value_length}
 use Rattle.card.specs.Entries.{entries, field_at, place_at, share, width}
-use Rattle.card.specs.Refusals.{at_byte, card_refusal}
+use Rattle.card.specs.Refusals.{at_byte, card_refusal, cause_refusal}
 use Rattle.sheet.specs.declared.fault.Refusal.{Refusal}
 use Rattle.sheet.specs.Calls.{enter_answer, entered, mode_answer, mode_put, set_answer, was_set}
 use Rattle.sheet.specs.Model.{Model, new_model}
@@ -16,24 +19,23 @@ two_at bs i = slice_index bs i * 256 + slice_index bs (i + 1)
 abbrev pub four_at : List ℕ → ℕ → ℕ
 four_at bs i = slice_index bs i * 16777216 + slice_index bs (i + 1) * 65536 + slice_index bs (i + 2) * 256 + slice_index bs (i + 3)
 
--- a value that wants n bytes: 16 where the length is another, 14 where the card ends before
-abbrev pub sized : ℕ → ℕ → List ℕ → Entry → Result Entry Refusal
-sized n size bs e = cond (size == n) (cond (nat_le n (length bs)) (Ok e) (Err (card_refusal 14))) (Err (card_refusal 16))
+-- the field of this tag whose value starts these bytes
+abbrev pub entry_from : Tag → List ℕ → Entry
+entry_from Tag.Mode bs = Entry.Mode (slice_index bs 0)
+entry_from Tag.Setting bs = Entry.Setting (slice_index bs 0) (slice_index bs 1) (four_at bs 2)
+entry_from Tag.Row bs = Entry.Row (slice_index bs 0) (four_at bs 1) (two_at bs 5) (two_at bs 7)
 
-abbrev pub mode_value : ℕ → List ℕ → Result Entry Refusal
-mode_value size bs = sized 1 size bs (Entry.Mode (slice_index bs 0))
+-- a field of this tag: 14 where the card ends before its value does
+abbrev pub value_at : Tag → List ℕ → Result Entry Refusal
+value_at t bs = cond (nat_le (value_length t) (length bs)) (Ok (entry_from t bs)) (Err (card_refusal 14))
 
-abbrev pub setting_value : ℕ → List ℕ → Result Entry Refusal
-setting_value size bs = sized 6 size bs (Entry.Setting (slice_index bs 0) (slice_index bs 1) (four_at bs 2))
+-- what a field says, by its tag, its length and the bytes after them: 15 where there is no such tag, 16 where the length is not the tag's
+abbrev pub value_by : Result Tag Cause → ℕ → List ℕ → Result Entry Refusal
+value_by (Err c) size bs = Err (cause_refusal c)
+value_by (Ok t) size bs = cond (size == value_length t) (value_at t bs) (Err (card_refusal 16))
 
-abbrev pub row_value : ℕ → List ℕ → Result Entry Refusal
-row_value size bs = sized 9 size bs (Entry.Row (slice_index bs 0) (four_at bs 1) (two_at bs 5) (two_at bs 7))
-
--- what a field says, by its tag, its length and the bytes after them: 15 where there is no such tag
 abbrev pub value_of : ℕ → ℕ → List ℕ → Result Entry Refusal
-value_of tag size bs =
-    cond (tag == 1) (mode_value size bs)
-    (cond (tag == 2) (setting_value size bs) (cond (tag == 3) (row_value size bs) (Err (card_refusal 15))))
+value_of tag size bs = value_by (tag_at tag) size bs
 
 -- the field at the start of some bytes: 14 where its first three are cut short
 unfoldable pub entry_at : List ℕ → Result Entry Refusal

@@ -1,7 +1,6 @@
 // The field at the start of some bytes: one byte of tag, two bytes of length, then the value; numbers have their high byte first.
 ghost use Rattle.std.specs.Prelude.{◌≡◌};
-ghost use Rattle.card.specs.Reading.{entry_at, value_of};
-ghost use Rattle.card.specs.Tags.{byte_of, value_length};
+ghost use Rattle.card.specs.Reading.{entry_at, value_at};
 ghost use Rattle.card.specs.Helpers.{by_refusal};
 
 use crate::entry::Entry;
@@ -27,7 +26,7 @@ impl Entry {
 
 // What a field of this tag says, by the bytes after its length.
 fn read_value(tag: Tag, rest: &[u8]) -> Result<Entry, Cause>
-    ensures { by_refusal result ≡ value_of (byte_of tag) (value_length tag) rest.now }
+    ensures { by_refusal result ≡ value_at tag rest.now }
 {
     match (tag, rest) {
         (Tag::Mode, [letter, ..]) => Ok(Entry::Mode { letter: *letter }),

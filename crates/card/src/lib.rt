@@ -55,10 +55,8 @@ mod tests {
         let mut sheet = Sheet::new(rt.alloc())?;
         let mut reader = CardReader::new(rt.alloc())?;
         let card = [1, 0, 1, 72, 2, 0, 6, 0, 9, 0, 0, 34, 56];
-        let told = match reader.load(&mut sheet, &card) {
-            Ok(()) => return Err(Fail::new("field 9 was accepted")),
-            Err(fault) => CardRefusal::from(fault),
-        };
+        let fault = reader.load(&mut sheet, &card).err();
+        let told = CardRefusal::from(fault.ok_or("field 9 was accepted")?);
         let refusal = told.refusal;
         assert_eq!(rt; refusal.number, 6);
         assert_eq!(rt; refusal.place, Some(0));
