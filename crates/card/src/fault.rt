@@ -6,7 +6,7 @@ ghost use Rattle.card.specs.declared.fault.Cause.TheVariants.{Sheet as CauseShee
 use sheet::{Fault, Layer, Refusal};
 
 // What is wrong with a field of a card.
-#[derive(Clone, Copy)]
+#[derive(Clone, Copy, Debug, PartialEq, Eq)]
 pub enum Cause {
     // the card ends within its first three bytes or its value
     CutShort,
@@ -21,7 +21,7 @@ pub enum Cause {
 }
 
 // What is wrong with a card: the first field that is refused, by the byte at which it starts, and why.
-#[derive(Clone, Copy)]
+#[derive(Clone, Copy, Debug, PartialEq, Eq)]
 pub struct CardFault {
     pub byte: usize,
     pub cause: Cause,
@@ -57,7 +57,7 @@ impl From<Cause> for Refusal {
 }
 
 // What a refused card tells: the refusal of its field, and the byte at which that field starts.
-#[derive(Clone, Copy)]
+#[derive(Clone, Copy, Debug, PartialEq, Eq)]
 pub struct CardRefusal {
     pub refusal: Refusal,
     pub byte: usize,

@@ -5,7 +5,7 @@ ghost use Rattle.card.specs.Refusals.{card_refusal};
 use sheet::{Layer, Refusal};
 
 // The area is shorter than the card.
-#[derive(Clone, Copy)]
+#[derive(Clone, Copy, Debug, PartialEq, Eq)]
 pub struct AreaShort;
 
 // The refusal, which names nothing.
