@@ -21,7 +21,7 @@ enum Verdict {
     WrittenBack,
     // accepted, and written back otherwise
     WrittenOtherwise,
-    // refused, and the sheet is still that of the card
+    // refused, and the sheet is still that of the card: by the number that is told
     Refused { number: u8, byte: usize },
     // refused, and the sheet is another
     RefusedAndChanged,
@@ -84,10 +84,8 @@ impl fmt::Display for Tally {
 // Whether the sheet is written as these bytes.
 fn written_as(sheet: &Sheet, card: &[u8]) -> bool {
     let mut area = [0; LENGTH];
-    match write(sheet, &mut area) {
-        Ok(length) => area.get(0..length) == Some(card),
-        Err(_) => false,
-    }
+    let written = write(sheet, &mut area);
+    written.is_ok_and(|length| area.get(0..length) == Some(card))
 }
 
 // Loads the card, and then these bytes.
@@ -110,9 +108,8 @@ fn main(rt: HostRuntime) -> anyhow::Result<()> {
     let mut sheet = Sheet::new(rt.alloc())?;
     let mut reader = CardReader::new(rt.alloc())?;
     let mut cuts = Tally::NONE;
-    // a cut is told by its length, and no slice can list its own cuts
-    for end in 0..=LENGTH {
-        cuts.count(judged(&mut reader, &mut sheet, &CARD[..end]));
+    for cut in (0..=LENGTH).filter_map(|end| CARD.get(..end)) {
+        cuts.count(judged(&mut reader, &mut sheet, cut));
     }
     println!(rt; "cuts: {cuts}")?;
     let mut changes = Tally::NONE;

@@ -29,6 +29,7 @@ fn push(card: &mut CardBuffer, entry: Entry)
             coverage,
         } => card.try_extend_from_slice(&row_bytes(place, rate, safe, coverage)),
     };
+    // there is room, so that this never fails
     added.unwrap()
 }
 
@@ -63,7 +64,7 @@ fn with_mode(mode: Option<Mode>) -> CardBuffer
     card
 }
 
-// A card with the mode and the settings of all places.
+// A card with the mode and the settings of all places. That a sheet is sound is learnt from its `rows` alone, so it is passed on in clauses.
 fn with_settings(sheet: &Sheet) -> CardBuffer
     requires { Sound sheet.now }
     ensures { result.items ≡ bytes (mode_entries sheet.now.mode) ++ bytes (setting_entries 0 sheet.now.fields) }
@@ -88,7 +89,8 @@ pub(crate) fn card_of(sheet: &Sheet) -> CardBuffer
     card
 }
 
-// The letter of a mode. This, `entry_of` and `share_number` are no `From`, since neither of their types is of this crate.
+// The letter of a mode. This, `entry_of` and `share_number` are no `From`: it would stand in
+// the crate of one of their types, public and away from the one place that wants it.
 fn letter(mode: Mode) -> u8
     ensures { result ≡ mode_letter mode }
 {

@@ -40,10 +40,9 @@ mod tests {
     ) -> Result<Option<String>, AllocError> {
         let mut buffer = LineBuffer::new(heap)?;
         buffer.add(line.as_bytes());
-        match respond(sheet, &mut buffer) {
-            Some(answer) => Ok(Some(format!(in heap; "{answer}")?)),
-            None => Ok(None),
-        }
+        respond(sheet, &mut buffer)
+            .map(|answer| format!(in heap; "{answer}"))
+            .transpose()
     }
 
     #[test]

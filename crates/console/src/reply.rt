@@ -36,7 +36,7 @@ fn carry_out(sheet: &mut Sheet, call: Call) -> Result<Answer, Fault>
 }
 
 // Answers the line that has come in, or nothing where it has no words, and empties it for the next. Sheet and line are two values, since
-// the sheet outlives every line.
+// the sheet is its user's, who asks it without a line too.
 pub fn respond(sheet: &mut Sheet, line: &mut LineBuffer) -> Option<Answer>
     ensures answer { Responds (read_held line.old) sheet.old result sheet.new }
     ensures emptied { line.new ≡ Some [] }

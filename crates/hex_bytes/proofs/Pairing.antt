@@ -30,7 +30,3 @@ hex_append (x ∷ xs) ys = ap (λ (l : List ℕ). character (x / 16) ∷ (charac
 
 pub hex_more : (xs : List ℕ) (i : ℕ) → i < length xs → hex_text (take (i + 1) xs) ≡ hex_text (take i xs) ++ (character (get_or xs i 0 / 16) ∷ (character (get_or xs i 0 % 16) ∷ []))
 hex_more xs i h = ap hex_text (take_more xs i 0 h) ∙ hex_append (take i xs) (get_or xs i 0 ∷ [])
-
-pub word_some : (xs : List ℕ) → eqb (length xs) 0 ≡ false → hex_text xs ≡ hex_word xs
-word_some [] h = cc
-word_some (x ∷ xs) h = refl

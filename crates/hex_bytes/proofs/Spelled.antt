@@ -5,7 +5,7 @@ use Rattle.std.proofs.lemmas.Bool.{and_right, cond_both, le-ltb, ltb-false}
 use Rattle.std.proofs.lemmas.Bool.Decides.{nat_tests}
 use Rattle.std.specs.List.{AllByRecursion}
 use Rattle.std.specs.Str.{bytes_eq}
-use Rattle.hex_bytes.specs.declared.reading.NotHex.TheVariants.{TooLong}
+use Rattle.hex_bytes.specs.declared.reading.NotHex.TheVariants.{NotPairs, TooLong}
 use Rattle.hex_bytes.specs.Digits.{before, byte_of, character, digit_of, hex_of, hex_text, hex_word}
 use Rattle.hex_bytes.specs.Capacity.{capacity}
 use Rattle.hex_bytes.specs.Reading.{bytes_of, from_hex_of, kept_or, longest}
@@ -122,3 +122,10 @@ hex_back (b ∷ bs) h =
 pub word_writes : (bs : List ℕ) → AllByRecursion (λ b. b < 256) bs → Writes (hex_word bs) bs
 word_writes [] h = refl
 word_writes (b ∷ bs) h = hex_pairs (hex_text (b ∷ bs)) (b ∷ bs) (hex_back (b ∷ bs) h)
+
+-- pairs of digits are read as the bytes that they write, and other words that are not `-` are told as no pairs
+pub from_some : (w bs : List ℕ) → length w ≤ longest → eqb (length w) 0 ≡ false → bytes_eq w (codes "-") ≡ false → Some bs ≡ hex_of w → Ok bs ≡ from_hex_of w
+from_some w bs l e d q = rw (le-ltb longest (length w) l, e, d, ← q) refl
+
+pub from_none : (w : List ℕ) → length w ≤ longest → eqb (length w) 0 ≡ false → bytes_eq w (codes "-") ≡ false → None ≡ hex_of w → Err NotPairs ≡ from_hex_of w
+from_none w l e d q = rw (le-ltb longest (length w) l, e, d, ← q) refl

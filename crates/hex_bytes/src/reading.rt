@@ -23,6 +23,7 @@ pub enum NotHex {
     TooLong,
 }
 
+// Written out, since a derived error promises nothing of its text.
 impl fmt::Display for NotHex {
     ghost output = { λ e. Some (reason e) };
 

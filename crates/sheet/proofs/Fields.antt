@@ -5,9 +5,23 @@ use Rattle.sheet.specs.declared.record.PlaceRecord.{PlaceRecord}
 use Rattle.sheet.specs.declared.setting.Setting.{Setting}
 use Rattle.sheet.specs.Limits.{allowed, allowed_or_blank, Within}
 use Rattle.sheet.specs.Model.{Model, with_field}
-use Rattle.sheet.specs.Settings.{fields_of, all_fields, blank_place, setting_number}
+use Rattle.sheet.specs.Settings.{fields_of, all_fields, setting_number}
 use Rattle.sheet.specs.Laws.{OneField}
 use Rattle.std.proofs.lemmas.Option.{none-some}
+
+-- a place with no settings
+abbrev pub blank_place : PlaceRecord
+blank_place =
+    record {
+      proof_test_interval = None;
+      mttr = None;
+      mrt = None;
+      beta = None;
+      beta_d = None;
+      k = None;
+      component_type = None;
+      voting = None;
+    }
 
 all_fields_set : (rs : List PlaceRecord) (p : ℕ) (r : PlaceRecord) (j : ℕ) (v : Option ℕ) → j < 8
     → fields_of r ≡ set (fields_of (get_or rs p blank_place)) j v → all_fields (set rs p r) ≡ set (all_fields rs) (8 * p + j) v

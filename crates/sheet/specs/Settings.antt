@@ -55,19 +55,6 @@ fields_of r =
     r.proof_test_interval ∷ r.mttr ∷ r.mrt ∷ r.beta ∷ r.beta_d ∷ r.k ∷ option_map component_code r.component_type
     ∷ option_map voting_code r.voting ∷ []
 
-abbrev pub blank_place : PlaceRecord
-blank_place =
-    record {
-      proof_test_interval = None;
-      mttr = None;
-      mrt = None;
-      beta = None;
-      beta_d = None;
-      k = None;
-      component_type = None;
-      voting = None;
-    }
-
 -- the fields of all places in order
 abbrev pub all_fields : List PlaceRecord → List (Option ℕ)
 all_fields [] = []

@@ -12,14 +12,14 @@ pub enum ComponentType {
     B,
 }
 
-// The voting of a group of like channels, M out of N; D is with diagnostics.
+// The voting of a group of like channels, M out of N, by its code; D is with diagnostics.
 #[derive(Clone, Copy)]
 pub enum VotingKind {
-    OneOutOfOne,
-    TwoOutOfTwo,
-    OneOutOfTwo,
-    TwoOutOfThree,
-    OneOutOfTwoD,
+    OneOutOfOne = 1,
+    TwoOutOfTwo = 2,
+    OneOutOfTwo = 3,
+    TwoOutOfThree = 4,
+    OneOutOfTwoD = 5,
 }
 
 // The code of a component type is that of its letter.
@@ -69,12 +69,6 @@ impl From<VotingKind> for u32 {
     ghost from_gives = { λ v code. code ≡ voting_code v };
 
     fn from(voting: VotingKind) -> u32 {
-        match voting {
-            VotingKind::OneOutOfOne => 1,
-            VotingKind::TwoOutOfTwo => 2,
-            VotingKind::OneOutOfTwo => 3,
-            VotingKind::TwoOutOfThree => 4,
-            VotingKind::OneOutOfTwoD => 5,
-        }
+        voting as u32
     }
 }

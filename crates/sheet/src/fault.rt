@@ -21,11 +21,11 @@ pub enum Fault {
     ShareBlank { place: u32, row: u32 },
 }
 
-// The layer of the unit that refuses.
+// The layer of the unit that refuses, with the number that it is told by.
 #[derive(Clone, Copy, PartialEq, Eq, Debug)]
 pub enum Layer {
-    Sheet,
-    Card,
+    Sheet = 1,
+    Card = 4,
 }
 
 // What a refused call tells: the refusal's number, the place and the item (a row or a field) that it names, and the layer that refused.
@@ -38,15 +38,11 @@ pub struct Refusal {
     pub layer: Layer,
 }
 
-// The number that the layer is told by.
 impl From<Layer> for u8 {
     ghost from_gives = { λ l n. n ≡ layer_number l };
 
     fn from(layer: Layer) -> u8 {
-        match layer {
-            Layer::Sheet => 1,
-            Layer::Card => 4,
-        }
+        layer as u8
     }
 }
 
@@ -75,7 +71,7 @@ impl From<Fault> for Refusal {
     }
 }
 
-// What a fault means, in words.
+// What a fault means, in words. Written out, since a derived error promises nothing of its text.
 impl fmt::Display for Fault {
     ghost output = { λ f. Some (meaning_text f) };
 

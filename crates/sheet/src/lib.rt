@@ -96,6 +96,15 @@ mod tests {
     }
 
     #[test]
+    fn letters_and_layers_have_meanings(rt: HostRuntime) {
+        assert_eq!(rt; Mode::try_from('L'), Ok(Mode::Low));
+        assert_eq!(rt; Mode::try_from('H'), Ok(Mode::High));
+        assert_eq!(rt; Mode::try_from('h'), Err(Fault::LetterUnknown));
+        assert_eq!(rt; u8::from(Layer::Sheet), 1);
+        assert_eq!(rt; u8::from(Layer::Card), 4);
+    }
+
+    #[test]
     fn a_struck_row_is_gone(rt: HostRuntime) -> Result<(), Fail> {
         let mut sheet = Sheet::new(rt.alloc())?;
         assert!(rt; sheet.enter(0, 1, Some(0), None).is_ok());

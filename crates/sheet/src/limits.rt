@@ -36,7 +36,8 @@ impl Share {
 }
 
 impl Row {
-    // The row of these numbers, if each is within its limits. The four are no struct, since they go no further than from `enter` to here.
+    // The row of these numbers, if each is within its limits. The four stay apart, since each is
+    // judged with a refusal of its own: a struct of numbers that are not judged would only be taken apart here.
     pub(crate) fn new(
         place: u32,
         rate: u32,

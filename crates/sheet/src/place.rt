@@ -10,7 +10,7 @@ pub struct Place {
 }
 
 impl Place {
-    // The place of that number, if there is one.
+    // The place of that number, if there is one. `new`, since of a number that is no place there is nothing else to tell.
     pub fn new(number: u32) -> Option<Place>
         ensures { MatchOption result (last_place < number) (λ p. p.number ≡ number) }
     {

@@ -58,7 +58,7 @@ impl Rows {
     {
         let mut sums = RateSums::NONE;
         for (i, row) in self.as_slice().iter().enumerate() {
-            if row.place.number == place.number {
+            if row.place == place {
                 sums = sums.plus(row.split().ok_or(i as u32)?);
             }
         }
