@@ -1,7 +1,7 @@
 -- Pairs of digits are read as the bytes that they write, and bytes are written as such pairs.
-use Rattle.std.proofs.Common.{◌≡◌, ℕ, ◌+◌, ◌/◌, ◌%◌, ◌<◌, false, eqb, List, [], ◌∷◌, ◌++◌, length, get_or, take, Some, None, Option, sym, refl, ap, ◌∙◌, append_assoc, arith}
+use Rattle.std.proofs.Common.{◌≡◌, ℕ, ◌+◌, ◌/◌, ◌%◌, ◌<◌, List, [], ◌∷◌, ◌++◌, length, get_or, take, Some, None, Option, sym, refl, ap, ◌∙◌, append_assoc, arith}
 use Rattle.std.proofs.lemmas.List.{take_more}
-use Rattle.hex_bytes.specs.Digits.{before, character, hex_of, hex_text, hex_word, pair_of}
+use Rattle.hex_bytes.specs.Digits.{before, character, hex_of, hex_text, pair_of}
 
 -- bytes that were read, before those that are read next, where these are bytes
 abbrev pub after : List ℕ → Option (List ℕ) → Option (List ℕ)

@@ -1,5 +1,5 @@
 -- The settings as the unit keeps them, by the numbers of the fields and of their values.
-use Rattle.std.specs.Prelude.{ℕ, List, [], ◌∷◌, ◌++◌, None, Option}
+use Rattle.std.specs.Prelude.{ℕ, List, [], ◌∷◌, ◌++◌, Option}
 use Rattle.std.specs.Option.{option_map}
 use Rattle.sheet.specs.declared.choice.ComponentType.{ComponentType}
 use Rattle.sheet.specs.declared.choice.VotingKind.{VotingKind}

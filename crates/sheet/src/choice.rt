@@ -3,7 +3,7 @@ ghost use Rattle.std.specs.Prelude.{◌≡◌, true, false, MatchResult};
 ghost use Rattle.sheet.specs.Limits.{allowed};
 ghost use Rattle.sheet.specs.Settings.{component_code, voting_code};
 
-use crate::field::OutsideLimits;
+use crate::bounds::OutsideLimits;
 
 // The component type: A where all failure modes are well defined and the behaviour under faults is known, else B.
 #[derive(Clone, Copy)]

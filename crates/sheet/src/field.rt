@@ -2,6 +2,8 @@
 ghost use Rattle.std.specs.Prelude.{◌≡◌, ◌≤◌, MatchResult};
 ghost use Rattle.sheet.specs.Settings.{field_number};
 
+use crate::bounds::OutsideLimits;
+
 // The eight fields of a place, numbered from 1 in this order.
 #[derive(Clone, Copy)]
 pub enum Field {
@@ -14,10 +16,6 @@ pub enum Field {
     ComponentType,
     Voting,
 }
-
-// A number that is outside the limits of what it is to stand for.
-#[derive(Clone, Copy)]
-pub struct OutsideLimits;
 
 impl TryFrom<u32> for Field {
     type Error = OutsideLimits;

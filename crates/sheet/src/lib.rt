@@ -2,6 +2,7 @@
 // analysis. Every call either does what it says or is refused with a numbered refusal and changes nothing.
 #![tactic(auto)]
 
+mod bounds;
 mod calls;
 mod choice;
 mod fault;

@@ -5,8 +5,8 @@ ghost use Rattle.sheet.specs.Calls.{over_share};
 ghost use Rattle.sheet.specs.Limits.{greatest_share};
 ghost use Rattle.sheet.specs.Parts.{MakesRow};
 
+use crate::bounds::{OutsideLimits, within};
 use crate::fault::Fault;
-use crate::field::OutsideLimits;
 use crate::place::Place;
 use crate::row::Row;
 use crate::share::Share;
@@ -19,11 +19,8 @@ impl Share {
     fn new(thousandths: u32) -> Result<Share, OutsideLimits>
         ensures { MatchResult result (λ s. (thousandths ≤ greatest_share) × (s.thousandths ≡ thousandths)) (λ _. greatest_share < thousandths) }
     {
-        if thousandths > 1000 {
-            return Err(OutsideLimits);
-        }
         Ok(Share {
-            thousandths: thousandths as u16,
+            thousandths: within::<0, 1000>(thousandths)? as u16,
         })
     }
 
@@ -47,9 +44,7 @@ impl Row {
         ensures { MakesRow place rate safe coverage result }
     {
         let at = Place::new(place).ok_or(Fault::PlaceOver { place, item: None })?;
-        if !(1..=GREATEST_RATE).contains(&rate) {
-            return Err(Fault::RateOutside { place });
-        }
+        let rate = within::<1, GREATEST_RATE>(rate).map_err(|_| Fault::RateOutside { place })?;
         let over = |_| Fault::ShareOver { place };
         Ok(Row {
             place: at,

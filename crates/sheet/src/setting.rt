@@ -3,8 +3,9 @@ ghost use Rattle.std.specs.Prelude.{◌≡◌, true, false, MatchResult};
 ghost use Rattle.sheet.specs.Limits.{allowed, allowed_or_blank};
 ghost use Rattle.sheet.specs.Settings.{field_number, setting_number, setting_value};
 
+use crate::bounds::{OutsideLimits, within};
 use crate::choice::{ComponentType, VotingKind};
-use crate::field::{Field, OutsideLimits};
+use crate::field::Field;
 
 // A field with a value that it may hold, or blank.
 #[derive(Clone, Copy)]
@@ -23,22 +24,14 @@ pub enum Setting {
 fn interval(value: u32) -> Result<u32, OutsideLimits>
     ensures { MatchResult result (λ v. (allowed 1 value ≡ true) × (v ≡ value)) (λ _. allowed 1 value ≡ false) }
 {
-    if (1..=200_000).contains(&value) {
-        Ok(value)
-    } else {
-        Err(OutsideLimits)
-    }
+    within::<1, 200_000>(value)
 }
 
 // Hours of repair, or ten-thousandths.
 fn up_to_10_000(value: u32) -> Result<u16, OutsideLimits>
     ensures { MatchResult result (λ v. (allowed 2 value ≡ true) × (v ≡ value)) (λ _. allowed 2 value ≡ false) }
 {
-    if value <= 10_000 {
-        Ok(value as u16)
-    } else {
-        Err(OutsideLimits)
-    }
+    Ok(within::<0, 10_000>(value)? as u16)
 }
 
 impl Setting {
