@@ -21,7 +21,8 @@ fn read_onto(sheet: &mut Sheet, bytes: &[u8]) -> Result<(), CardFault>
 {
     let mut rest = bytes;
     let mut last = None;
-    // a field's width is known only once it is read, so no iterator of the library over pieces of the bytes has the fields
+    // a field's width is known only once it is read, so no iterator of the library over pieces of the bytes has the
+    // fields; one of our own would leave the sheet, the last field and the byte to the loop all the same
     while !rest.is_empty() {
         let byte = bytes.len() - rest.len();
         let entry = step(sheet, last, rest).map_err(|cause| CardFault { byte, cause })?;

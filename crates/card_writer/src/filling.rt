@@ -64,7 +64,8 @@ fn with_mode(mode: Option<Mode>) -> CardBuffer
     card
 }
 
-// A card with the mode and the settings of all places. That a sheet is sound is learnt from its `rows` alone, so it is passed on in clauses.
+// A card with the mode and the settings of all places. A model forgets what always holds of a
+// sheet, so that it is learnt from `rows`, and passed on in clauses.
 fn with_settings(sheet: &Sheet) -> CardBuffer
     requires { Sound sheet.now }
     ensures { result.items ≡ bytes (mode_entries sheet.now.mode) ++ bytes (setting_entries 0 sheet.now.fields) }
@@ -89,8 +90,8 @@ pub(crate) fn card_of(sheet: &Sheet) -> CardBuffer
     card
 }
 
-// The letter of a mode. This, `entry_of` and `share_number` are no `From`: it would stand in
-// the crate of one of their types, public and away from the one place that wants it.
+// The letter of a mode. This and `entry_of` are no `From`: it would stand in the crate of one of their types, public
+// and away from the one place that wants it. `share_number` has no type of any of these crates, so it could stand nowhere.
 fn letter(mode: Mode) -> u8
     ensures { result ≡ mode_letter mode }
 {

@@ -35,8 +35,8 @@ fn carry_out(sheet: &mut Sheet, call: Call) -> Result<Answer, Fault>
     }
 }
 
-// Answers the line that has come in, or nothing where it has no words, and empties it for the next. Sheet and line are two values, since
-// the sheet is its user's, who asks it without a line too.
+// Answers the line that has come in, or nothing where it has no words, and empties it for the next. Sheet and line stay two values: a
+// struct of the two would hold just what its one user has, and be a name more.
 pub fn respond(sheet: &mut Sheet, line: &mut LineBuffer) -> Option<Answer>
     ensures answer { Responds (read_held line.old) sheet.old result sheet.new }
     ensures emptied { line.new ≡ Some [] }

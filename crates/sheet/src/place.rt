@@ -2,6 +2,8 @@
 ghost use Rattle.std.specs.Prelude.{◌≡◌, ◌<◌, ◌≤◌, MatchOption};
 ghost use Rattle.sheet.specs.Limits.{last_place};
 
+use crate::bounds::within;
+
 // One of the eight places, 0 to 7. All rows of a place describe one of its like channels.
 #[derive(Clone, Copy, PartialEq, Eq, Debug)]
 pub struct Place {
@@ -14,11 +16,7 @@ impl Place {
     pub fn new(number: u32) -> Option<Place>
         ensures { MatchOption result (last_place < number) (λ p. p.number ≡ number) }
     {
-        if number > 7 {
-            return None;
-        }
-        Some(Place {
-            number: number as u8,
-        })
+        let number = within::<0, 7>(number).ok()? as u8;
+        Some(Place { number })
     }
 }

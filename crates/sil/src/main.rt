@@ -33,7 +33,7 @@ fn serve<R: BufRead + Drop>(rt: &HostRuntime, input: R) -> anyhow::Result<()> {
     let mut input = input;
     let mut sheet = Sheet::new(rt.alloc())?;
     let mut line = LineBuffer::new(rt.alloc())?;
-    // nothing says that an input ends, so the turns are counted
+    // nothing says that an input ends, so the turns are counted; the library's `lines` would keep a line of any length
     for _ in 0..u64::MAX {
         let part = input.fill_buf()?;
         if part.is_empty() {
