@@ -9,7 +9,8 @@ use Rattle.card.specs.Entries.{bytes, card, entries, field_at, field_bytes, mode
 use Rattle.card.specs.Reading.{all_before, before, in_order, none}
 use Rattle.card.proofs.Takes.{entry_put, entry_refusal}
 use Rattle.card.specs.Helpers.{Last, follows}
-use Rattle.card.proofs.Limits.{in_mode, in_set}
+use Rattle.card.proofs.Limits.{in_mode}
+use Rattle.sheet.proofs.Accepted.{in_set}
 use Rattle.sheet.specs.declared.mode.Mode.{Mode}
 use Rattle.sheet.specs.Calls.{mode_by}
 use Rattle.sheet.specs.Model.{Model, Row, letter_mode, new_model}

@@ -6,7 +6,7 @@ use Rattle.card.specs.declared.entry.Entry.{Entry}
 use Rattle.card.specs.Entries.{field_bytes, share, width}
 use Rattle.card.specs.Reading.{entry_at, entry_made, in_order, reads, step}
 use Rattle.card.proofs.Takes.{answer_is, entry_put, entry_refusal, made_is}
-use Rattle.card.proofs.Limits.{in_row, in_set}
+use Rattle.sheet.proofs.Accepted.{in_row, in_set}
 use Rattle.sheet.specs.Calls.{over_share}
 use Rattle.sheet.specs.Limits.{allowed}
 use Rattle.sheet.specs.Model.{Model}

@@ -5,4 +5,5 @@ pub mod Listed
 pub mod Summed
 pub mod Kept
 pub mod Showing
+pub mod Accepted
 pub mod Sounds
