@@ -6,41 +6,58 @@ use Rattle.std.proofs.lemmas.Bool.{and_parts, eq-eqb, eqb-true}
 use Rattle.std.proofs.Common.{Bool, ◌&&◌, eqb, sym, ◌∙◌, ◌≡◌, ℕ, suc, ◌+◌, ◌-◌, ◌<◌, ◌≤◌, List, [], ◌∷◌, ◌++◌, length, take, drop, set, replicate, refl, ap, arith}
 use lib.Seq.{take-append_seam}
 use Rattle.std.proofs.lemmas.List.{length_push, drop-replicate}
-use Rattle.hex_bytes.specs.declared.bytes.Bytes.TheInside.{Inside}
-use Rattle.hex_bytes.specs.Capacity.{capacity}
-use Rattle.hex_bytes.specs.Kept.{held, IsKept, kept_as}
+use Rattle.hex_bytes.specs.declared.bytes.Bytes.{Bytes}
+use Rattle.hex_bytes.specs.Capacity.{capacity, IsKept, padded}
+use Rattle.hex_bytes.specs.Kept.{held}
 
 -- what is kept is held
-pub held_kept : (bs : List ℕ) → held (kept_as bs) ≡ bs
+pub held_kept : (bs : List ℕ) → take (length bs) (padded bs) ≡ bs
 held_kept bs = take-append_seam bs (replicate (capacity - length bs) 0)
 
-kept : (b : Inside) (bs : List ℕ) → b ≡ kept_as bs → length bs ≤ capacity → IsKept b
-kept b bs e h = rw e (record { few = rw (held_kept bs) h; padded = rw (held_kept bs) refl })
+kept : (a : List ℕ) (n : ℕ) (bs : List ℕ) → a ≡ padded bs → n ≡ length bs → length bs ≤ capacity → IsKept a n
+kept a n bs e q h = rw (e, q) (record { few = h; count = rw (held_kept bs) refl; is = rw (held_kept bs) refl })
 
 -- a byte takes the place of the first zero
 set_first : (bs : List ℕ) (b m : ℕ) → set (bs ++ replicate (suc m) 0) (length bs) b ≡ (bs ++ (b ∷ [])) ++ replicate m 0
 set_first [] b m = refl
 set_first (x ∷ xs) b m = ap (λ (l : List ℕ). x ∷ l) (set_first xs b m)
 
-pushed_as : (a : Inside) (bs : List ℕ) (b : ℕ) → a ≡ kept_as bs → length bs < capacity → IsKept (record { array = set a.array a.length b; length = a.length + 1 })
-pushed_as a bs b e h =
+set_padded : (bs : List ℕ) (b : ℕ) → length bs < capacity → set (padded bs) (length bs) b ≡ padded (bs ++ (b ∷ []))
+set_padded bs b h =
     let n : capacity - length bs ≡ suc (capacity - (length bs + 1)) = omega arith in
-    kept _ (bs ++ (b ∷ [])) (rw (e, n, set_first bs b (capacity - (length bs + 1)), length_push bs b) refl) (rw (length_push bs b) (omega arith))
+    rw (n, set_first bs b (capacity - (length bs + 1)), length_push bs b) refl
 
-pub pushed : (a : Inside) (b : ℕ) → IsKept a → length (held a) < capacity → IsKept (record { array = set a.array a.length b; length = a.length + 1 })
-pushed a b k h = pushed_as a (held a) b k.padded h
+pushed_as : (a : List ℕ) (n b : ℕ) (bs : List ℕ) → a ≡ padded bs → n ≡ length bs → length bs < capacity → set a n b ≡ padded (bs ++ (b ∷ []))
+pushed_as a n b bs e q h = rw (e, q) (set_padded bs b h)
+
+pub pushed : (a : List ℕ) (n b : ℕ) → IsKept a n → n < capacity → set a n b ≡ padded (take n a ++ (b ∷ []))
+pushed a n b k h = pushed_as a n b (take n a) k.is (sym k.count) (rw k.count h)
+
+pub pushed_kept : (a : List ℕ) (n b : ℕ) → IsKept a n → n < capacity → IsKept (set a n b) (n + 1)
+pushed_kept a n b k h =
+    let l : n + 1 ≡ length (take n a ++ (b ∷ [])) = sym (length_push (take n a) b ∙ ap (λ (m : ℕ). m + 1) k.count) in
+    kept _ _ (take n a ++ (b ∷ [])) (pushed a n b k h) l (omega (arith, l, h))
+
+-- one byte more is held
+pub pushed_held : (a : List ℕ) (n b : ℕ) → IsKept a n → n < capacity → take (n + 1) (set a n b) ≡ take n a ++ (b ∷ [])
+pushed_held a n b k h =
+    let l : n + 1 ≡ length (take n a ++ (b ∷ [])) = sym (length_push (take n a) b ∙ ap (λ (m : ℕ). m + 1) k.count) in
+    rw (pushed a n b k h, l) (held_kept (take n a ++ (b ∷ [])))
 
 -- bytes that are written over the front of zeros are kept
-pub sliced : (xs ys : List ℕ) → ys ≡ xs → length xs ≤ capacity → IsKept (record { array = ys ++ drop (length xs) (replicate 2048 0); length = length xs })
-sliced xs ys e h = kept _ xs (rw (e, drop-replicate {X = ℕ} (length xs) 2048 0) refl) h
+pub sliced : (xs ys : List ℕ) → ys ≡ xs → length xs ≤ capacity → IsKept (ys ++ drop (length xs) (replicate 2048 0)) (length xs)
+sliced xs ys e h = kept _ _ xs (rw (e, drop-replicate {X = ℕ} (length xs) 2048 0) refl) refl h
 
 -- two values are equal, by a comparison of their fields, just where they hold the same bytes
-pub same_kept : (r : Bool) (bs cs : List ℕ) → r ≡ (bytes_eq (kept_as bs).array (kept_as cs).array && eqb (length bs) (length cs)) → IsTrue r ↔ (bs ≡ cs)
-same_kept r bs cs e = (
+pub same_kept : (r : Bool) (a b : Bytes) → r ≡ (bytes_eq a.array b.array && eqb a.length b.length) → IsTrue r ↔ (held a ≡ held b)
+same_kept r a b e = (
   λ t.
-      let both = and_parts (bytes_eq (kept_as bs).array (kept_as cs).array) (eqb (length bs) (length cs)) (sym e ∙ t) in
-      let arrays : (kept_as bs).array ≡ (kept_as cs).array = (bytes_eq-Decides _ _).0 both.0 in
-      let lengths : length bs ≡ length cs = eqb-true _ _ both.1 in
-      sym (held_kept bs) ∙ (ap (take (length bs)) arrays ∙ (ap (λ n. take n (kept_as cs).array) lengths ∙ held_kept cs)),
-  λ q. rw (e, q, (bytes_eq-Decides (kept_as cs).array (kept_as cs).array).1 refl, eq-eqb (length cs) (length cs) refl) refl,
+      let both = and_parts (bytes_eq a.array b.array) (eqb a.length b.length) (sym e ∙ t) in
+      let arrays : a.array ≡ b.array = (bytes_eq-Decides _ _).0 both.0 in
+      let lengths : a.length ≡ b.length = eqb-true _ _ both.1 in
+      ap (take a.length) arrays ∙ ap (λ (n : ℕ). take n b.array) lengths,
+  λ q.
+      let arrays : a.array ≡ b.array = a.kept.is ∙ (ap padded q ∙ sym b.kept.is) in
+      let lengths : a.length ≡ b.length = sym a.kept.count ∙ (ap (λ (l : List ℕ). length l) q ∙ b.kept.count) in
+      rw (e, arrays, lengths, (bytes_eq-Decides b.array b.array).1 refl, eq-eqb b.length b.length refl) refl,
 )

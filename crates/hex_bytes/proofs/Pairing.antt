@@ -1,5 +1,8 @@
 -- Pairs of digits are read as the bytes that they write, and bytes are written as such pairs.
 use Rattle.std.proofs.Common.{◌≡◌, ℕ, ◌+◌, ◌/◌, ◌%◌, ◌<◌, List, [], ◌∷◌, ◌++◌, length, get_or, take, Some, None, Option, sym, refl, ap, ◌∙◌, append_assoc, arith}
+use Rattle.std.proofs.lemmas.Bool.Decides.{nat_tests}
+use Rattle.std.proofs.lemmas.Str.{encode_ascii}
+use Rattle.std.specs.Char.{encode_utf8}
 use Rattle.std.proofs.lemmas.List.{take_more}
 use Rattle.hex_bytes.specs.Digits.{before, character, hex_of, hex_text, pair_of}
 
@@ -30,3 +33,9 @@ hex_append (x ∷ xs) ys = ap (λ (l : List ℕ). character (x / 16) ∷ (charac
 
 pub hex_more : (xs : List ℕ) (i : ℕ) → i < length xs → hex_text (take (i + 1) xs) ≡ hex_text (take i xs) ++ (character (get_or xs i 0 / 16) ∷ (character (get_or xs i 0 % 16) ∷ []))
 hex_more xs i h = ap hex_text (take_more xs i 0 h) ∙ hex_append (take i xs) (get_or xs i 0 ∷ [])
+
+character_ascii : (n : ℕ) → n < 16 → character n < 128
+character_ascii n h = grind (arith, nat_tests)
+
+pub pair_text : (a b m n : ℕ) → m < 16 → n < 16 → a ≡ character m → b ≡ character n → encode_utf8 a ++ encode_utf8 b ≡ character m ∷ (character n ∷ [])
+pair_text a b m n h k e d = rw (e, d, encode_ascii (character m) (character_ascii m h), encode_ascii (character n) (character_ascii n k)) refl

@@ -110,7 +110,7 @@ read_writes w bs h = read_by (ltb longest (length w)) (bytes_of w) w bs refl ref
 digit_character : (n : ℕ) → n < 16 → digit_of (character n) ≡ Some n
 digit_character n h = grind (arith, nat_tests)
 
-hex_back : (bs : List ℕ) → AllByRecursion (λ b. b < 256) bs → hex_of (hex_text bs) ≡ Some bs
+pub hex_back : (bs : List ℕ) → AllByRecursion (λ b. b < 256) bs → hex_of (hex_text bs) ≡ Some bs
 hex_back [] h = refl
 hex_back (b ∷ bs) h =
     let lt : b / 16 < 16 = omega (arith, h.0) in

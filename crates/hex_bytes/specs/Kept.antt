@@ -1,17 +1,13 @@
--- The bytes that fields hold, and the fields that hold given bytes.
-use Rattle.std.specs.Prelude.{◌≡◌, ℕ, ◌-◌, ◌≤◌, List, ◌++◌, length, take, replicate}
-use Rattle.hex_bytes.specs.declared.bytes.Bytes.TheInside.{Inside}
-use Rattle.hex_bytes.specs.Capacity.{capacity}
+-- The bytes that a value holds.
+use Rattle.std.specs.Prelude.{ℕ, List, take}
+use Rattle.std.specs.Result.{result_map_both}
+use Rattle.std.specs.Prelude.{Result}
+use Rattle.hex_bytes.specs.declared.bytes.Bytes.{Bytes}
 
--- the bytes that fields hold
-abbrev pub held : Inside → List ℕ
+-- the bytes that a value holds
+abbrev pub held : Bytes → List ℕ
 held b = take b.length b.array
 
--- the fields that hold these bytes: the bytes, zeros after them up to the capacity, and how many bytes there are
-abbrev pub kept_as : List ℕ → Inside
-kept_as bs = record { array = bs ++ replicate (capacity - length bs) 0; length = length bs }
-
--- the fields are those that hold the bytes, which are not more than the capacity
-pub record IsKept (b : Inside) : Type 0 where
-  pub few : length (held b) ≤ capacity
-  pub padded : b ≡ kept_as (held b)
+-- the bytes of a value that was made, or why none was
+abbrev pub held_or : {E : Type 0} → Result Bytes E → Result (List ℕ) E
+held_or r = result_map_both held (λ e. e) r

@@ -14,6 +14,8 @@ pub use reading::NotHex;
 #[cfg(test)]
 mod tests {
     use super::*;
+    use std::fmt;
+    use std::fmt::Write;
     use std::test::Fail;
 
     #[test]
@@ -37,12 +39,58 @@ mod tests {
         Ok(())
     }
 
+    // Bytes with a number, as a caller may keep them.
+    #[derive(Clone, Copy)]
+    struct Numbered {
+        bytes: Bytes,
+        number: usize,
+    }
+
+    fn sum(numbered: Numbered) -> usize {
+        numbered
+            .bytes
+            .as_slice()
+            .len()
+            .saturating_add(numbered.number)
+    }
+
+    #[test]
+    fn bytes_are_copied_in_a_struct(rt: HostRuntime) -> Result<(), Fail> {
+        let bytes = Bytes::from_slice(&[1, 76]).ok_or("too many")?;
+        let numbered = Numbered { bytes, number: 5 };
+        assert_eq!(rt; sum(numbered), 7);
+        assert_eq!(rt; sum(numbered), 7);
+        Ok(())
+    }
+
     #[test]
     fn bytes_are_printed(rt: HostRuntime) -> Result<(), Fail> {
         let bytes = Bytes::from_hex(b"0100014C")?;
         assert_eq!(rt; format!(in rt.alloc(); "{bytes}")?.as_str(), "0100014c");
         let none = Bytes::from_hex(b"-")?;
         assert_eq!(rt; format!(in rt.alloc(); "{none}")?.as_str(), "-");
+        Ok(())
+    }
+
+    // A writer with room for so many bytes.
+    #[derive(Drop)]
+    struct Room {
+        left: usize,
+    }
+
+    impl fmt::Write for Room {
+        fn write_str(&mut self, text: &str) -> fmt::Result {
+            self.left = self.left.checked_sub(text.len()).ok_or(fmt::Error)?;
+            Ok(())
+        }
+    }
+
+    #[test]
+    fn digits_are_written_one_by_one(rt: HostRuntime) -> Result<(), Fail> {
+        let bytes = Bytes::from_hex(b"0aff")?;
+        let mut room = Room { left: 3 };
+        assert!(rt; write!(room, "{bytes}").is_err());
+        assert_eq!(rt; room.left, 0);
         Ok(())
     }
 

@@ -1,12 +1,14 @@
 // Bytes as a word.
 ghost use Rattle.hex_bytes.specs.Digits.{hex_word};
+ghost use Rattle.hex_bytes.specs.Kept.{held};
 ghost use Rattle.std.specs.Prelude.{Some};
 
 use crate::bytes::Bytes;
+use crate::digits::lower_case;
 use std::fmt;
 
 impl fmt::Display for Bytes {
-    ghost output = { λ bs. Some (hex_word bs) };
+    ghost output = { λ b. Some (hex_word (held b)) };
 
     fn fmt<W: fmt::Write>(&self, f: &mut fmt::Formatter<W>) -> fmt::Result {
         let bytes = self.as_slice();
@@ -14,7 +16,9 @@ impl fmt::Display for Bytes {
             return f.write_str("-");
         }
         for b in bytes {
-            write!(f, "{b:02x}")?;
+            let high = lower_case(*b / 16);
+            let low = lower_case(*b % 16);
+            write!(f, "{high}{low}")?;
         }
         Ok(())
     }

@@ -1,6 +1,9 @@
 // The bytes that a word writes.
 ghost use Rattle.std.specs.Prelude.{◌≡◌, ℕ, ◌<◌, ◌≤◌, List, length, Some, Ok};
 ghost use Rattle.hex_bytes.specs.Capacity.{capacity};
+ghost use Rattle.hex_bytes.specs.Kept.{held, held_or};
+ghost use Rattle.std.specs.Option.{option_map};
+ghost use Rattle.hex_bytes.specs.declared.bytes.Bytes.{Bytes};
 ghost use Rattle.hex_bytes.specs.Digits.{hex_of, hex_word};
 ghost use Rattle.hex_bytes.specs.Reading.{from_hex_of, longest, reason};
 ghost use Rattle.hex_bytes.specs.Writing.{Writes};
@@ -40,7 +43,7 @@ impl Error for NotHex {}
 // The bytes that pairs of digits write.
 fn pairs(word: &[u8]) -> Option<Bytes>
     requires { length word.now ≤ longest }
-    ensures { result ≡ hex_of word.now }
+    ensures { option_map held result ≡ hex_of word.now }
 {
     let mut bytes = Bytes::none();
     for pair in word.chunks(2) {
@@ -51,7 +54,7 @@ fn pairs(word: &[u8]) -> Option<Bytes>
 
 // What a word is read as.
 fn read(word: &[u8]) -> Result<Bytes, NotHex>
-    ensures { result ≡ from_hex_of word.now }
+    ensures { held_or result ≡ from_hex_of word.now }
 {
     if word.len() > LONGEST {
         return Err(NotHex::TooLong);
@@ -68,10 +71,10 @@ impl Bytes {
     // A word is read just where it writes bytes that can be kept: `accepted` and `spelled`.
     // `value` says which reason is told of any other word. The word of bytes that are printed is read as these bytes: `back`.
     pub fn from_hex(word: &[u8]) -> Result<Bytes, NotHex>
-        ensures value { result ≡ from_hex_of word.now }
-        ensures accepted { (bs : List ℕ) → result ≡ Ok bs → Writes word.now bs × (length bs ≤ capacity) × AllByRecursion (λ b. b < 256) bs }
-        ensures spelled { (bs : List ℕ) → Writes word.now bs → length bs ≤ capacity → result ≡ Ok bs }
-        ensures back { (bs : List ℕ) → AllByRecursion (λ b. b < 256) bs → length bs ≤ capacity → word.now ≡ hex_word bs → result ≡ Ok bs }
+        ensures value { held_or result ≡ from_hex_of word.now }
+        ensures accepted { (b : Bytes) → result ≡ Ok b → Writes word.now (held b) × (length (held b) ≤ capacity) × AllByRecursion (λ b. b < 256) (held b) }
+        ensures spelled { (bs : List ℕ) → Writes word.now bs → length bs ≤ capacity → held_or result ≡ Ok bs }
+        ensures back { (bs : List ℕ) → AllByRecursion (λ b. b < 256) bs → length bs ≤ capacity → word.now ≡ hex_word bs → held_or result ≡ Ok bs }
     {
         read(word)
     }

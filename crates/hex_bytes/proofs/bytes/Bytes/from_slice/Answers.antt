@@ -3,4 +3,4 @@ use Rattle.hex_bytes.proofs.Keeping.{sliced}
 use Rattle.hex_bytes.proofs.bytes.Bytes.from_slice.Goals as goal
 
 pub invariant_of-result : goal.invariant_of-result
-invariant_of-result c = sliced c.args.bytes.now c.copy_from_slice.new.self c.copy_from_slice.ensures.after (omega arith)
+invariant_of-result c = record { kept = sliced c.args.bytes.now c.copy_from_slice.new.self c.copy_from_slice.ensures.after (omega arith) }
