@@ -14,6 +14,7 @@ use Rattle.line.specs.declared.calls.Call.TheVariants.{Enter, Strike, Set, Blank
 use Rattle.line.specs.Limits.{number_limit}
 use Rattle.line.specs.Words.{comment_mark, space, uncommented, words}
 use Rattle.line.specs.Calls.{call_of}
+use Rattle.line.specs.Reading.{read_of}
 use Rattle.line.specs.Spelling.{Spells}
 use Rattle.line.specs.Texts.{share_text, call_words, spaced, call_text, Writable, Letter, Printable}
 use Rattle.line.proofs.Splits.{Plain}
@@ -133,6 +134,9 @@ text_back c h = text_spaced (call_words c) (call_word c h)
 
 pub call_back : (c : Call) → Printable c → call_of (words (uncommented (call_text c))) ≡ Ok (Some c)
 call_back c h = rw (uncommented_spaced (call_words c) (call_word c h), words_spaced (call_words c) (call_word c h)) (spells_call (call_words c) c (call_spelled c h))
+
+pub read_back : (c : Call) → Printable c → read_of (call_text c) ≡ Ok (Some c)
+read_back c h = rw (is_utf8-from_IsUtf8 (call_text c) (text_back c h)) (call_back c h)
 
 -- what is known of a line that is read
 pub ruleset reading = (IsUtf8-from_is_utf8, is_utf8-from_IsUtf8, call_printable, text_back)

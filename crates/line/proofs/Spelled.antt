@@ -1,18 +1,20 @@
 -- A call is read from the words that spell it, and from no others.
-use Rattle.std.proofs.Common.{◌≡◌, ℕ, ◌<◌, ◌≤◌, true, List, [], ◌∷◌, Some, None, Ok, Err, codes, Option, Result, refl, ⊎_elim, arith}
+use Rattle.std.proofs.Common.{◌≡◌, ℕ, ◌<◌, ◌≤◌, Bool, true, false, cond, List, [], ◌∷◌, Some, None, Ok, Err, codes, Option, Result, refl, ⊎_elim, arith}
 use Rattle.std.specs.Char.{encode_utf8, IsScalar}
 use Rattle.std.proofs.lemmas.Slice.Eq.{bytes_eq-Decides}
 use Rattle.std.proofs.lemmas.Bool.{cases_lt, cond_both}
 use Rattle.std.proofs.lemmas.Str.{encode_ascii, IsUtf8-encode}
 use Rattle.std.proofs.lemmas.Bool.Decides.{nat_tests}
 use Rattle.std.specs.List.{AllByRecursion}
-use Rattle.std.specs.Str.{bytes_eq}
+use Rattle.std.specs.Str.{bytes_eq, is_utf8}
 use Rattle.line.specs.declared.calls.Call.{Call}
 use Rattle.line.specs.declared.calls.Call.TheVariants.{Enter, Strike, Set, Blank, Mode, Clear, Show}
 use Rattle.line.specs.declared.calls.NotCall.{NotCall}
 use Rattle.line.specs.Words.{uncommented, words}
 use Rattle.line.specs.Values.{letter_of, number_of, share_of}
 use Rattle.line.specs.Calls.{with_rest, first_as, and_then, end_of, enter_of, strike_of, set_of, blank_of, mode_of, show_of, named_of, made_call, call_of}
+use Rattle.line.specs.declared.calls.NotCall.TheVariants.{NotText}
+use Rattle.line.specs.Reading.{read_of}
 use Rattle.line.specs.Spelling.{ShareWord, LetterWord, Spells}
 use Rattle.line.specs.Texts.{Writable, Letter, Printable}
 use Rattle.line.proofs.Splits.{Plain, line_plain}
@@ -143,3 +145,17 @@ spelled_printable ws (Show place) a h = h.2.below
 
 pub call_printable : (line : List ℕ) (c : Call) → call_of (words (uncommented line)) ≡ Ok (Some c) → Printable c
 call_printable line c h = spelled_printable (words (uncommented line)) c (line_plain line) (call_spells (words (uncommented line)) c h)
+
+-- the same of what a line is read as, and so of what a buffer answers
+accepted_by : (b : Bool) (line : List ℕ) (c : Call) → is_utf8 line ≡ b → cond b (call_of (words (uncommented line))) (Err NotText) ≡ Ok (Some c) → (is_utf8 line ≡ true) × Spells (words (uncommented line)) c
+accepted_by true line c e h = (e, call_spells (words (uncommented line)) c h)
+accepted_by false line c e h = cc
+
+pub read_accepted : (line : List ℕ) (c : Call) → read_of line ≡ Ok (Some c) → (is_utf8 line ≡ true) × Spells (words (uncommented line)) c
+read_accepted line c h = accepted_by (is_utf8 line) line c refl h
+
+pub read_spelled : (line : List ℕ) (c : Call) → is_utf8 line ≡ true → Spells (words (uncommented line)) c → read_of line ≡ Ok (Some c)
+read_spelled line c e h = rw e (spells_call (words (uncommented line)) c h)
+
+pub read_printable : (line : List ℕ) (c : Call) → read_of line ≡ Ok (Some c) → Printable c
+read_printable line c h = spelled_printable (words (uncommented line)) c (line_plain line) (read_accepted line c h).1

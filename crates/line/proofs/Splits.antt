@@ -1,12 +1,12 @@
 -- How the words of a text come from its runs of blanks and of other bytes.
-use Rattle.std.proofs.Common.{◌≡◌, ℕ, ◌<◌, ◌≤◌, Bool, true, false, not, eqb, ltb, List, [], ◌∷◌, length, take, drop, Some, None, refl, ⊎_elim, ◌∙◌, ap, suc, get_or, one-add, arith, drop-cons}
+use Rattle.std.proofs.Common.{◌≡◌, ℕ, ◌<◌, ◌≤◌, Bool, true, false, not, eqb, ltb, List, [], ◌∷◌, length, take, drop, Some, None, refl, ⊎_elim, ◌∙◌, ap, suc, get_or, one-add, arith, drop-cons, sym, Decides, Option}
 use Rattle.std.proofs.lemmas.Bool.{cases_lt, lt-ltb, le-ltb, not-true}
 use Rattle.std.proofs.lemmas.List.Sums.{prefix_len-le-length}
 use Rattle.std.proofs.lemmas.List.{drop_all}
 use Rattle.std.proofs.lemmas.List.Quantifiers.{position-Some}
 use Rattle.std.proofs.lemmas.Option.{cond_some}
 use Rattle.std.specs.List.{position, position_or_len, AllByRecursion}
-use Rattle.std.specs.Option.{unwrap_or}
+use Rattle.std.specs.Option.{is_some, unwrap_or}
 use Rattle.line.specs.Words.{blank, begins, comment_mark, joined, uncommented, words}
 
 -- where the first byte that passes stands, or how many bytes there are
@@ -66,6 +66,13 @@ words_some bs n e =
     let b : blank (get_or bs n 0) ≡ false = not-true _ k.1 in
     let s = cond_some (ltb (blanks bs) (length bs)) (blanks bs) n e in
     words_trimmed bs ∙ rw (s.1, drop-cons bs n 0 k.0) (words_cut (get_or bs n 0) (drop (suc n) bs) b)
+
+-- so it tells whether there is a word
+pub words_empty : (bs : List ℕ) (r : Bool) (o : Option ℕ) → o ≡ position (λ c. not (blank c)) bs → is_some o ≡ not r → Decides r (words bs ≡ [])
+words_empty bs true None e h = (λ _. words_none bs (sym e), λ _. refl)
+words_empty bs false None e h = (λ z. cc, λ z. cc)
+words_empty bs true (Some n) e h = (λ z. cc, λ z. cc)
+words_empty bs false (Some n) e h = (λ z. cc, λ z. let w = words_some bs n (sym e) in cc)
 
 -- a byte of a word: no blank and no comment mark
 abbrev pub Plain : ℕ → Type 0

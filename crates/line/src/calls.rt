@@ -1,6 +1,6 @@
 // The calls that a line can make, the reasons why a line is no call, and the text of both.
 ghost use Rattle.line.specs.Texts.{call_text, not_call_text, share_text};
-ghost use Rattle.std.specs.Prelude.{Some};
+ghost use Rattle.std.specs.Prelude.{◌≡◌, Some};
 
 use std::error::Error;
 use std::fmt;
@@ -92,12 +92,12 @@ impl fmt::Display for Call {
     }
 }
 
-// Written out, since a derived error promises nothing of its text.
-impl fmt::Display for NotCall {
-    ghost output = { λ n. Some (not_call_text n) };
-
-    fn fmt<W: fmt::Write>(&self, f: &mut fmt::Formatter<W>) -> fmt::Result {
-        f.write_str(match self {
+impl NotCall {
+    // The reason in words.
+    fn text(self) -> &'static str
+        ensures { result.now ≡ not_call_text self }
+    {
+        match self {
             NotCall::NotText => "line is not text",
             NotCall::TooLong => "line is longer than 4096 bytes",
             NotCall::UnknownName => "no call has this name",
@@ -106,7 +106,16 @@ impl fmt::Display for NotCall {
             NotCall::NumberTooLarge => "number too large",
             NotCall::NotLetter => "not a single character",
             NotCall::TooManyWords => "too many words",
-        })
+        }
+    }
+}
+
+// Written out, since a derived error promises nothing of its text.
+impl fmt::Display for NotCall {
+    ghost output = { λ n. Some (not_call_text n) };
+
+    fn fmt<W: fmt::Write>(&self, f: &mut fmt::Formatter<W>) -> fmt::Result {
+        f.write_str(self.text())
     }
 }
 

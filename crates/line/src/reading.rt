@@ -1,5 +1,5 @@
 // The call that a line makes, read word by word from the left: the first word that is wrong decides.
-ghost use Rattle.line.specs.Calls.{call_of, first_as, named_of, with_rest};
+ghost use Rattle.line.specs.Calls.{call_of, end_of, first_as, named_of, with_rest};
 ghost use Rattle.line.specs.Reading.{read_of};
 ghost use Rattle.line.specs.Spelling.{Spells};
 ghost use Rattle.line.specs.Texts.{Printable, call_text};
@@ -16,6 +16,17 @@ fn part<T: FromWord>(words: &mut Words<'_>) -> Result<T, NotCall>
     ensures { with_rest result words.new ≡ first_as T.value_of words.old }
 {
     T::from_word(words.next().ok_or(NotCall::WordMissing)?)
+}
+
+// The call, where no word is left.
+fn end(words: &Words<'_>, call: Call) -> Result<Call, NotCall>
+    ensures { result ≡ end_of call words.now }
+{
+    if words.is_empty() {
+        Ok(call)
+    } else {
+        Err(NotCall::TooManyWords)
+    }
 }
 
 // The call of this name, from the words after the name.
@@ -48,10 +59,7 @@ fn named(name: &str, words: &mut Words<'_>) -> Result<Call, NotCall>
         },
         _ => return Err(NotCall::UnknownName),
     };
-    match words.next() {
-        None => Ok(call),
-        Some(_) => Err(NotCall::TooManyWords),
-    }
+    end(words, call)
 }
 
 // The call that the words of a text make, or none where it has no words.

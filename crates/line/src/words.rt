@@ -1,5 +1,5 @@
 // How a line is cut: at its comment, and into words.
-ghost use Rattle.std.specs.Prelude.{◌≡◌, [], ◌∷◌, length, MatchOption};
+ghost use Rattle.std.specs.Prelude.{◌≡◌, [], ◌∷◌, length, MatchOption, Decides};
 ghost use Rattle.std.specs.Iterator.{at_most};
 ghost use Rattle.line.specs.Words.{blank, uncommented, words};
 
@@ -34,6 +34,13 @@ impl<'a> Words<'a> {
     {
         let text = line.split_once('#').map_or(line, |(text, _)| text);
         Words { text }
+    }
+
+    // Whether no word is left.
+    pub(crate) fn is_empty(&self) -> bool
+        ensures { Decides result (self.now ≡ []) }
+    {
+        self.text.find(|c| !is_blank(c)).is_none()
     }
 }
 
