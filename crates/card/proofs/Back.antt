@@ -136,7 +136,7 @@ unfolding reads
 back m s = ap read (sym (append-nil (card m))) ∙ on m s []
 
 -- a field that is refused ends the reading
-reads_stop : (bs : List ℕ) (at : ℕ) (m : Model) (r : Refusal) → 0 < length bs → step m bs ≡ Err r → reads bs 0 at m ≡ Err (at_byte at r)
+pub reads_stop : (bs : List ℕ) (at : ℕ) (m : Model) (r : Refusal) → 0 < length bs → step m bs ≡ Err r → reads bs 0 at m ≡ Err (at_byte at r)
 unfolding reads
 reads_stop [] at m r h q = absurd (omega arith)
 reads_stop (b ∷ bs) at m r h q = ap (λ o. go_on at o (λ x. reads bs (width x - 1) (at + width x) (entry_made m x))) q

@@ -52,6 +52,7 @@ impl CardReader {
         ensures answer { card_answer result ≡ load_answer bytes.now }
         ensures after { sheet.new ≡ loaded sheet.old bytes.now }
         ensures loads { Loads bytes.now sheet.old sheet.new (card_answer result) }
+        ensures sound { OnOk result (Sound sheet.new) }
         ensures fields { TakesFields }
         ensures one_sheet { OneSheet }
     {

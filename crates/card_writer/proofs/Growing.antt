@@ -25,16 +25,16 @@ setting_append i (Some v ∷ xs) ys =
     (setting_append (suc i) xs ys ∙ ap (λ k. setting_entries (suc i) xs ++ setting_entries k ys) n)
 
 -- how long the parts are
-settings_length : (i : ℕ) (xs : List (Option ℕ)) → length (bytes (setting_entries i xs)) ≤ 9 * length xs
+pub settings_length : (i : ℕ) (xs : List (Option ℕ)) → length (bytes (setting_entries i xs)) ≤ 9 * length xs
 settings_length i [] = omega arith
 settings_length i (None ∷ xs) = let h = settings_length (suc i) xs in omega arith
 settings_length i (Some v ∷ xs) = let h = settings_length (suc i) xs in omega arith
 
-rows_length : (rs : List Row) → length (bytes (row_entries rs)) ≡ 12 * length rs
+pub rows_length : (rs : List Row) → length (bytes (row_entries rs)) ≡ 12 * length rs
 rows_length [] = refl
 rows_length (r ∷ rs) = let h = rows_length rs in omega arith
 
-mode_length : (o : Option Mode) → length (bytes (mode_entries o)) ≤ 4
+pub mode_length : (o : Option Mode) → length (bytes (mode_entries o)) ≤ 4
 mode_length None = omega arith
 mode_length (Some k) = omega arith
 

@@ -1,5 +1,5 @@
 // How a card is filled: the mode, the settings by place and field, then the rows.
-ghost use Rattle.std.specs.Prelude.{◌≡◌, ◌*◌, ◌≤◌, ◌++◌, length};
+ghost use Rattle.std.specs.Prelude.{◌≡◌, ◌*◌, ◌≤◌, [], ◌++◌, length};
 ghost use Rattle.std.specs.Option.{option_map};
 ghost use Rattle.card.specs.declared.entry.Entry.{Entry};
 ghost use Rattle.card.specs.Entries.{bytes, card, field_bytes, longest_card, mode_entries, mode_letter, row_entry, setting_entries, share_number};
@@ -10,7 +10,8 @@ use crate::buffer::CardBuffer;
 use card::{BLANK_SHARE, Entry, Tag};
 use sheet::{Mode, Place, Row, Share, Sheet};
 
-// One field more.
+// One field more. Inlined, so that it is written straight from its numbers.
+#[inline]
 fn push(card: &mut CardBuffer, entry: Entry)
     requires { length (card.old.items ++ field_bytes entry) ≤ longest_card }
     ensures { card.new.items ≡ card.old.items ++ field_bytes entry }
@@ -34,12 +35,12 @@ fn push(card: &mut CardBuffer, entry: Entry)
 }
 
 // The eight fields of a place, those that are not blank.
-fn push_place(card: &mut CardBuffer, place: u8, values: [Option<u32>; 8])
-    requires { length (card.old.items ++ bytes (setting_entries (8 * place) values)) ≤ longest_card }
-    ensures { card.new.items ≡ card.old.items ++ bytes (setting_entries (8 * place) values) }
+fn push_place(card: &mut CardBuffer, place: u8, values: &[Option<u32>; 8])
+    requires { length (card.old.items ++ bytes (setting_entries (8 * place) values.now)) ≤ longest_card }
+    ensures { card.new.items ≡ card.old.items ++ bytes (setting_entries (8 * place) values.now) }
 {
     for (field, value) in (1..).zip(values) {
-        if let Some(value) = value {
+        if let Some(value) = *value {
             push(
                 card,
                 Entry::Setting {
@@ -52,42 +53,41 @@ fn push_place(card: &mut CardBuffer, place: u8, values: [Option<u32>; 8])
     }
 }
 
-// A card with the mode, if there is one.
-fn with_mode(mode: Option<Mode>) -> CardBuffer
-    ensures { result.items ≡ bytes (mode_entries mode) }
+// The mode, if there is one, as the first field.
+fn push_mode(card: &mut CardBuffer, mode: Option<Mode>)
+    requires { card.old.items ≡ [] }
+    ensures { card.new.items ≡ bytes (mode_entries mode) }
 {
-    let mut card = CardBuffer::new();
     if let Some(mode) = mode {
         let letter = letter(mode);
-        push(&mut card, Entry::Mode { letter });
+        push(card, Entry::Mode { letter });
     }
-    card
 }
 
-// A card with the mode and the settings of all places. A model forgets what always holds of a
+// The mode and the settings of all places, as the first fields. A model forgets what always holds of a
 // sheet, so that it is learnt from `rows`, and passed on in clauses.
-fn with_settings(sheet: &Sheet) -> CardBuffer
-    requires { Sound sheet.now }
-    ensures { result.items ≡ bytes (mode_entries sheet.now.mode) ++ bytes (setting_entries 0 sheet.now.fields) }
+fn push_settings(card: &mut CardBuffer, sheet: &Sheet)
+    requires sound { Sound sheet.now }
+    requires empty { card.old.items ≡ [] }
+    ensures { card.new.items ≡ bytes (mode_entries sheet.now.mode) ++ bytes (setting_entries 0 sheet.now.fields) }
 {
-    let mut card = with_mode(sheet.mode());
+    push_mode(card, sheet.mode());
     for place in (0..8).filter_map(Place::new) {
-        push_place(&mut card, place.number, sheet.values(place));
+        push_place(card, place.number, &sheet.values(place));
     }
-    card
 }
 
-// The card of a sheet.
-pub(crate) fn card_of(sheet: &Sheet) -> CardBuffer
-    ensures value { result.items ≡ card sheet.now }
+// Fills an empty buffer with the card of a sheet. It is lent and not answered, so that it is not copied.
+pub(crate) fn fill(buffer: &mut CardBuffer, sheet: &Sheet)
+    requires { buffer.old.items ≡ [] }
+    ensures value { buffer.new.items ≡ card sheet.now }
     ensures sound { Sound sheet.now }
 {
     let rows = sheet.rows();
-    let mut card = with_settings(sheet);
+    push_settings(buffer, sheet);
     for row in rows {
-        push(&mut card, entry_of(row));
+        push(buffer, entry_of(row));
     }
-    card
 }
 
 // The letter of a mode. This and `entry_of` are no `From`: it would stand in the crate of one of their types, public

@@ -5,7 +5,8 @@ ghost use Rattle.card_writer.specs.Laws.{LongestReached, Writes};
 ghost use Rattle.card_writer.specs.Writing.{area_answer, write_answer, written};
 
 use crate::area::AreaShort;
-use crate::filling::card_of;
+use crate::buffer::CardBuffer;
+use crate::filling::fill;
 use sheet::Sheet;
 
 // The card of the sheet at the start of the area, and its length; or nothing, where the area is shorter.
@@ -14,7 +15,8 @@ fn put_card(sheet: &Sheet, area: &mut [u8]) -> Result<usize, AreaShort>
     ensures after { area.new ≡ written sheet.now area.old }
     ensures sound { Sound sheet.now }
 {
-    let card = card_of(sheet);
+    let mut card = CardBuffer::new();
+    fill(&mut card, sheet);
     // `get_mut` of a range says nothing of the area after the write, so the length is compared first.
     if area.len() < card.len() {
         return Err(AreaShort);

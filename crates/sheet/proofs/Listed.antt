@@ -1,14 +1,15 @@
 -- The rows of the model against the rows that the unit keeps.
 use Rattle.std.proofs.Common.{◌≡◌, ℕ, zero, suc, ◌<◌, ◌≤◌, List, [], ◌∷◌, ◌++◌, map, length, take, drop, Some, None, Ok, Option, refl, ◌∙◌, subst, add-one, arith}
 use Rattle.std.specs.List.{remove, slice_get}
-use Rattle.std.specs.Option.{option_map}
+use Rattle.std.specs.Option.{MatchOption, option_map}
 use Rattle.std.proofs.lemmas.List.Edits.{length-remove}
-use Rattle.std.proofs.lemmas.List.{length-map, map-append, take-map, drop-map}
+use Rattle.std.proofs.lemmas.List.{length-map, length_push, map-append, take-map, drop-map}
 use Rattle.sheet.specs.declared.row.Row as unit
 use Rattle.sheet.specs.declared.share.Share.{Share}
 use Rattle.sheet.specs.declared.sheets.Sheet.TheInside.{Inside}
 use Rattle.sheet.specs.Holds.{Limited, model_of, row_of}
 use Rattle.sheet.specs.Laws.{OneRowOut}
+use Rattle.sheet.specs.Limits.{most_rows}
 use Rattle.sheet.specs.Model.{Model, Row, without_row}
 use Rattle.sheet.specs.Sound.{Sound, RowWithin, ShareWithin}
 use Rattle.sheet.proofs.Fields.{all_fields_length}
@@ -16,6 +17,13 @@ use Rattle.std.proofs.lemmas.Option.{none-some}
 
 pub rows_removed : (xs : List unit.Row) (i : ℕ) → map row_of (remove xs i) ≡ take i (map row_of xs) ++ drop (suc i) (map row_of xs)
 rows_removed xs i = map-append row_of (take i xs) (drop (suc i) xs) ∙ rw (take-map row_of i xs, drop-map row_of (suc i) xs)
+
+-- as many rows as there may be, after one was added or refused
+pub added_few : (new old : List unit.Row) (row : unit.Row) (o : Option ℕ)
+    → MatchOption o ((most_rows ≤ length old) × (new ≡ old)) (λ n. (length old < most_rows) × (n ≡ length old) × (new ≡ old ++ row ∷ []))
+    → length old ≤ most_rows → length new ≤ most_rows
+added_few new old row None m h = rw m.1 h
+added_few new old row (Some n) m h = rw m.2 (omega (arith, length_push old row, m.0))
 
 -- a model with other rows
 abbrev pub with_rows : Model → List Row → Model

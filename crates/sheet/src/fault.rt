@@ -71,12 +71,12 @@ impl From<Fault> for Refusal {
     }
 }
 
-// What a fault means, in words. Written out, since a derived error promises nothing of its text.
-impl fmt::Display for Fault {
-    ghost output = { λ f. Some (meaning_text f) };
-
-    fn fmt<W: fmt::Write>(&self, f: &mut fmt::Formatter<W>) -> fmt::Result {
-        f.write_str(match self {
+impl Fault {
+    // What the fault means, in words.
+    fn meaning(self) -> &'static str
+        ensures { result.now ≡ meaning_text self }
+    {
+        match self {
             Fault::PlaceOver { .. } => "place over 7",
             Fault::RateOutside { .. } => "rate outside 1 to 100000000",
             Fault::ShareOver { .. } => "safe share or coverage over 1000",
@@ -87,7 +87,16 @@ impl fmt::Display for Fault {
             Fault::LetterUnknown => "mode letter not L or H",
             Fault::RowsMissing { .. } => "place without rows",
             Fault::ShareBlank { .. } => "safe share or coverage blank",
-        })
+        }
+    }
+}
+
+// The words of the fault. Written out, since a derived error promises nothing of its text.
+impl fmt::Display for Fault {
+    ghost output = { λ f. Some (meaning_text f) };
+
+    fn fmt<W: fmt::Write>(&self, f: &mut fmt::Formatter<W>) -> fmt::Result {
+        f.write_str(self.meaning())
     }
 }
 

@@ -28,7 +28,11 @@ impl Share {
     fn optional(thousandths: Option<u32>) -> Result<Option<Share>, OutsideLimits>
         ensures { MatchResult result (λ s. (over_share thousandths ≡ false) × (option_map (λ x. x.thousandths) s ≡ thousandths)) (λ _. over_share thousandths ≡ true) }
     {
-        thousandths.map(Share::new).transpose()
+        // a match, since `map` and `transpose` cost more where a row is read from a card
+        match thousandths {
+            None => Ok(None),
+            Some(thousandths) => Share::new(thousandths).map(Some),
+        }
     }
 }
 

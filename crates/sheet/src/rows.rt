@@ -1,5 +1,5 @@
 // The rows of a sheet: one more, one fewer, none.
-ghost use Rattle.std.specs.Prelude.{◌≡◌, ◌≤◌, ◌<◌, [], ◌∷◌, ◌++◌, IfOk, MatchOption, length};
+ghost use Rattle.std.specs.Prelude.{◌≡◌, ◌≤◌, ◌<◌, [], ◌∷◌, ◌++◌, IfOk, MatchOption, length, slice_index_or};
 ghost use Rattle.std.specs.List.{remove};
 ghost use Rattle.sheet.specs.Limits.{most_rows};
 
@@ -59,7 +59,7 @@ impl Rows {
 
     // One row fewer, and the row; none where there is no such row.
     pub(crate) fn remove(&mut self, row: u32) -> Option<Row>
-        ensures { MatchOption result ((length self.old ≤ row) × (self.new ≡ self.old)) (λ _. (row < length self.old) × (self.new ≡ remove self.old row)) }
+        ensures { MatchOption result ((length self.old ≤ row) × (self.new ≡ self.old)) (λ gone. (row < length self.old) × (self.new ≡ remove self.old row) × (gone ≡ slice_index_or self.old row gone)) }
     {
         let at = row as usize;
         if at >= self.list.len() {

@@ -43,15 +43,21 @@ impl Setting {
             Field::ProofTestInterval => Setting::ProofTestInterval(
                 value.map(interval).transpose()?,
             ),
-            Field::Mttr => Setting::Mttr(value.map(up_to_10_000).transpose()?),
-            Field::Mrt => Setting::Mrt(value.map(up_to_10_000).transpose()?),
-            Field::Beta => Setting::Beta(value.map(up_to_10_000).transpose()?),
-            Field::BetaD => Setting::BetaD(value.map(up_to_10_000).transpose()?),
-            Field::K => Setting::K(value.map(up_to_10_000).transpose()?),
             Field::ComponentType => Setting::ComponentType(
                 value.map(ComponentType::try_from).transpose()?,
             ),
             Field::Voting => Setting::Voting(value.map(VotingKind::try_from).transpose()?),
+            // judged once for the five, which is quicker than an arm for each
+            _ => {
+                let value = value.map(up_to_10_000).transpose()?;
+                match field {
+                    Field::Mttr => Setting::Mttr(value),
+                    Field::Mrt => Setting::Mrt(value),
+                    Field::Beta => Setting::Beta(value),
+                    Field::BetaD => Setting::BetaD(value),
+                    _ => Setting::K(value),
+                }
+            }
         })
     }
 }

@@ -1,5 +1,5 @@
 use Rattle.std.proofs.Common.{◌≡◌, ℕ, ◌*◌, ◌+◌, ◌++◌, length}
-use Rattle.std.specs.Array.Iter.{array_into_iter_items}
+use Rattle.std.specs.Slice.Iter.{iter_rest}
 use Rattle.card.specs.Entries.{bytes, setting_entries}
 use Rattle.card_writer.proofs.filling.push_place.Given as goal
 
@@ -7,6 +7,6 @@ abbrev pub invariant-loop-field : goal.invariant-loop-field
 invariant-loop-field l =
     (goal.iterator-loop-field).can_next l.field-iterator
     × (goal.iterator-loop-field).is_finite l.field-iterator
-    × ((k : ℕ) × (l.field-iterator.a.start ≡ k + 1) × (k + length (array_into_iter_items l.field-iterator.b) ≡ 8)
-    × (l.card.items ++ bytes (setting_entries (8 * l.place + k) (array_into_iter_items l.field-iterator.b))
-    ≡ l.initial.card.items ++ bytes (setting_entries (8 * l.place) l.fn.values)))
+    × ((k : ℕ) × (l.field-iterator.a.start ≡ k + 1) × (k + length (iter_rest l.field-iterator.b) ≡ 8)
+    × (l.card.items ++ bytes (setting_entries (8 * l.place + k) (iter_rest l.field-iterator.b))
+    ≡ l.initial.card.items ++ bytes (setting_entries (8 * l.place) l.values)))

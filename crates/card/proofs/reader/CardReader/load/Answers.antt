@@ -15,6 +15,7 @@ returns-in_err-read_onto c =
       answer = refused_answer _ _ h m;
       after = refused_after _ _ h m;
       loads = refused _ _ h m;
+      sound = tt;
       fields = takes_fields;
       one_sheet = one_sheet;
     })
@@ -27,6 +28,7 @@ returns c =
       answer = accepted_answer _ _ s e;
       after = accepted_after _ _ s e _ _ (search rules);
       loads = accepted _ _ s e _ _ (search rules);
+      sound = search rules;
       fields = takes_fields;
       one_sheet = one_sheet;
     }

@@ -44,3 +44,6 @@ returns-clause-one_field c =
     rw (← c.self.view_is)
     (subst P (sym (after c))
     (one_field m p f v (sound c.self.inside c.self.invariant).all_fields_stand (omega (arith, c.args.place.within)) l.0 l.1))
+
+pub returns-clause-sound : goal.returns-clause-sound
+returns-clause-sound c = sound _ (invariant_of-self c)

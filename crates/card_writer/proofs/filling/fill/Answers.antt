@@ -1,10 +1,10 @@
 use Rattle.std.proofs.Common.{sym, ◌∙◌, append-nil}
 use Rattle.std.proofs.Math.ListN.{drop_of_length-le}
 use Rattle.card_writer.proofs.Growing.{card_parts, card_short, row_next, short_part}
-use Rattle.card_writer.proofs.filling.card_of.Goals as goal
+use Rattle.card_writer.proofs.filling.fill.Goals as goal
 
 pub loop-row-init : goal.loop-row-init
-loop-row-init c = rw (c.with_settings-card.ensures, c.rows-rows.ensures.rows) (card_parts c.args.sheet.now)
+loop-row-init c = rw (c.push_settings.ensures, c.rows-rows.ensures.rows) (card_parts c.args.sheet.now)
 
 pub push-requires : goal.push-requires
 push-requires c =

@@ -1,6 +1,6 @@
 use Rattle.std.proofs.Common.{◌≡◌, ◌*◌, ◌≤◌, ◌++◌, drop}
 use Rattle.card.specs.Entries.{bytes, mode_entries, setting_entries}
-use Rattle.card_writer.proofs.filling.with_settings.Given as goal
+use Rattle.card_writer.proofs.filling.push_settings.Given as goal
 
 abbrev pub invariant-loop-place : goal.invariant-loop-place
 invariant-loop-place l =
