@@ -5,3 +5,4 @@ pub mod Written
 pub mod Back
 pub mod Loads
 pub mod Spelling
+pub mod Stepping

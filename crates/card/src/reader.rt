@@ -52,10 +52,12 @@ impl CardReader {
         ensures answer { card_answer result ≡ load_answer bytes.now }
         ensures after { sheet.new ≡ loaded sheet.old bytes.now }
         ensures loads { Loads bytes.now sheet.old sheet.new (card_answer result) }
-        ensures sound { OnOk result (Sound sheet.new) }
+        ensures sound { Sound sheet.new }
         ensures fields { TakesFields }
         ensures one_sheet { OneSheet }
     {
+        // for what always holds of a sheet, which `rows` tells
+        let _ = sheet.rows();
         self.draft.clear();
         read_onto(&mut self.draft, bytes)?;
         std::mem::swap(sheet, &mut self.draft);

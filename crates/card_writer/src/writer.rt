@@ -32,6 +32,7 @@ pub fn write(sheet: &Sheet, area: &mut [u8]) -> Result<usize, AreaShort>
     ensures after { area.new ≡ written sheet.now area.old }
     ensures writes { Writes sheet.now area.old area.new (area_answer result) }
     ensures longest { LongestReached }
+    ensures sound { Sound sheet.now }
 {
     put_card(sheet, area)
 }

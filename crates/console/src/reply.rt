@@ -3,6 +3,7 @@ ghost use Rattle.std.specs.Prelude.{◌≡◌, [], Some};
 ghost use Rattle.line.specs.Buffer.{read_held};
 ghost use Rattle.console.specs.Helpers.{told};
 ghost use Rattle.console.specs.Replies.{Replies, Responds};
+ghost use Rattle.sheet.specs.Sound.{Sound};
 
 use crate::answers::Answer;
 use line::{Call, LineBuffer};
@@ -10,7 +11,8 @@ use sheet::{Fault, Sheet};
 
 // Carries out one call, unless the sheet refuses it.
 fn carry_out(sheet: &mut Sheet, call: Call) -> Result<Answer, Fault>
-    ensures { Replies call sheet.old (told result) sheet.new }
+    ensures replies { Replies call sheet.old (told result) sheet.new }
+    ensures sound { Sound sheet.new }
 {
     match call {
         Call::Enter {
@@ -40,7 +42,10 @@ fn carry_out(sheet: &mut Sheet, call: Call) -> Result<Answer, Fault>
 pub fn respond(sheet: &mut Sheet, line: &mut LineBuffer) -> Option<Answer>
     ensures answer { Responds (read_held line.old) sheet.old result sheet.new }
     ensures emptied { line.new ≡ Some [] }
+    ensures sound { Sound sheet.new }
 {
+    // for what always holds of a sheet, which `rows` tells
+    let _ = sheet.rows();
     match line.finish() {
         Ok(Some(call)) => Some(carry_out(sheet, call).unwrap_or_else(Answer::Refused)),
         Ok(None) => None,

@@ -3,7 +3,8 @@ use Rattle.std.specs.Prelude.{IsTrue, ◌↔◌}
 use Rattle.std.specs.Str.{bytes_eq}
 use Rattle.std.proofs.lemmas.Slice.Eq.{bytes_eq-Decides}
 use Rattle.std.proofs.lemmas.Bool.{and_parts, eq-eqb, eqb-true}
-use Rattle.std.proofs.Common.{Bool, ◌&&◌, eqb, sym, ◌∙◌, ◌≡◌, ℕ, suc, ◌+◌, ◌-◌, ◌<◌, ◌≤◌, List, [], ◌∷◌, ◌++◌, length, take, drop, set, replicate, refl, ap, arith}
+use Rattle.std.proofs.Common.{Bool, ◌&&◌, eqb, sym, ◌∙◌, ◌≡◌, ℕ, suc, ◌+◌, ◌-◌, ◌<◌, ◌≤◌, List, [], ◌∷◌, ◌++◌, length, take, drop, set, replicate, refl, ap, subst, arith}
+use denote.Struct.Props.{props}
 use lib.Seq.{take-append_seam}
 use Rattle.std.proofs.lemmas.List.{length_push, drop-replicate}
 use Rattle.hex_bytes.specs.declared.bytes.Bytes.{Bytes}
@@ -61,3 +62,22 @@ same_kept r a b e = (
       let lengths : a.length ≡ b.length = sym a.kept.count ∙ (ap (λ (l : List ℕ). length l) q ∙ b.kept.count) in
       rw (e, arrays, lengths, (bytes_eq-Decides b.array b.array).1 refl, eq-eqb b.length b.length refl) refl,
 )
+
+-- so values that hold the same bytes are one value
+kept_prop : (a : List ℕ) (n : ℕ) → IsProp (IsKept a n)
+kept_prop a n = hlevel props
+
+abbrev made : (a : List ℕ) (n : ℕ) → IsKept a n → Bytes
+made a n k = record { array = a; length = n; kept = k }
+
+same_fields : (a b : List ℕ) (n m : ℕ) (k : IsKept a n) (l : IsKept b m) → a ≡ b → n ≡ m → made a n k ≡ made b m l
+same_fields a b n m k l e q =
+    let P : ℕ → Type 0 = λ x. (j : IsKept a x) → made a n k ≡ made a x j in
+    let Q : List ℕ → Type 0 = λ x. (j : IsKept x m) → made a n k ≡ made x m j in
+    subst Q e (subst P q (λ j. ap (made a n) (kept_prop a n k j))) l
+
+pub same_bytes : (a b : Bytes) → held a ≡ held b → a ≡ b
+same_bytes a b q =
+    let arrays : a.array ≡ b.array = a.kept.is ∙ (ap padded q ∙ sym b.kept.is) in
+    let lengths : a.length ≡ b.length = sym a.kept.count ∙ (ap (λ (l : List ℕ). length l) q ∙ b.kept.count) in
+    same_fields a.array b.array a.length b.length a.kept b.kept arrays lengths

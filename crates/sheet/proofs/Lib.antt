@@ -7,3 +7,4 @@ pub mod Kept
 pub mod Showing
 pub mod Accepted
 pub mod Sounds
+pub mod Checks

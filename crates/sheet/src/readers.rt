@@ -12,14 +12,16 @@ use crate::sheets::Sheet;
 impl Sheet {
     // The mode, if one was put in.
     pub fn mode(&self) -> Option<Mode>
-        ensures { result ≡ self.now.mode }
+        ensures value { result ≡ self.now.mode }
+        ensures sound { Sound self.now }
     {
         self.mode
     }
 
     // The values of the eight fields of a place in order, by their numbers; none where a field is blank.
     pub fn values(&self, place: Place) -> [Option<u32>; 8]
-        ensures { result ≡ place_fields self.now place.number }
+        ensures value { result ≡ place_fields self.now place.number }
+        ensures sound { Sound self.now }
     {
         self.places[usize::from(place.number)].values()
     }

@@ -80,6 +80,7 @@ impl Sheet {
         ensures value { result ≡ sums self.now place.number }
         ensures bounded { IfSome result (λ x. Bounded most_rows x) }
         ensures kept { IfSome result (λ x. SumsKept self.now place.number x) }
+        ensures sound { Sound self.now }
     {
         Some(self.rows.sums(place).ok()?.sums)
     }

@@ -3,6 +3,7 @@ ghost use Rattle.std.specs.Prelude.{◌≡◌, ◌<◌, ◌≤◌, [], ◌∷◌
 ghost use Rattle.std.specs.Option.{option_map};
 ghost use Rattle.hex_bytes.specs.Capacity.{capacity, slice_kept};
 ghost use Rattle.hex_bytes.specs.Kept.{held};
+ghost use Rattle.hex_bytes.specs.declared.bytes.Bytes.{Bytes};
 
 use super::{Bytes, CAPACITY};
 
@@ -42,10 +43,11 @@ impl Bytes {
         })
     }
 
-    // The bytes, without the zeros after them.
+    // The bytes, without the zeros after them. No other value holds the same.
     pub fn as_slice(&self) -> &[u8]
         ensures bytes { result.now ≡ held self.now }
         ensures few { length (held self.now) ≤ capacity }
+        ensures alone { (b : Bytes) → held b ≡ held self.now → b ≡ self.now }
     {
         &self.array[..self.length]
     }

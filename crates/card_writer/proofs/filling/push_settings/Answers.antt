@@ -12,7 +12,7 @@ push_place-requires c =
     let inv = c.loop-place.invariant in
     let s = place_turn (λ (p : Place). p.number) c.loop-place.place-iterator c.next.new.self (Some c.in-Some.place) inv.2 c.in-Some.ensures.steps (λ f x r h k. search rules) in
     let next = place_next c.loop-place.card.items _ c.loop-place.place-iterator.iter.start m.fields (omega (arith, all.all_fields_stand, s.1.1)) inv.4 in
-    rw (c.values.ensures, s.1.0) (short_part _ _ _ next (settings_short m all))
+    rw (c.values.ensures.value, s.1.0) (short_part _ _ _ next (settings_short m all))
 
 pub loop-place-preserved : goal.loop-place-preserved
 loop-place-preserved c =
@@ -21,7 +21,7 @@ loop-place-preserved c =
     let inv = c.loop-place.invariant in
     let s = place_turn (λ (p : Place). p.number) c.loop-place.place-iterator c.next.new.self (Some c.in-Some.place) inv.2 c.in-Some.ensures.steps (λ f x r h k. search rules) in
     let next = place_next c.loop-place.card.items _ c.loop-place.place-iterator.iter.start m.fields (omega (arith, all.all_fields_stand, s.1.1)) inv.4 in
-    (search rules, tt, s.0, omega (arith, s.1.1, s.1.2), rw (c.push_place.ensures, c.values.ensures, s.1.0, s.1.2) next)
+    (search rules, tt, s.0, omega (arith, s.1.1, s.1.2), rw (c.push_place.ensures, c.values.ensures.value, s.1.0, s.1.2) next)
 
 pub returns : goal.returns
 returns c =

@@ -11,4 +11,5 @@ returns c =
       after = h.after;
       writes = writes s h.sound c.args.area.now _ _ h.answer h.after;
       longest = longest_reached;
+      sound = h.sound;
     }

@@ -15,7 +15,7 @@ returns-in_err-read_onto c =
       answer = refused_answer _ _ h m;
       after = refused_after _ _ h m;
       loads = refused _ _ h m;
-      sound = tt;
+      sound = search rules;
       fields = takes_fields;
       one_sheet = one_sheet;
     })
