@@ -1,7 +1,6 @@
 -- The bytes that a value holds.
-use Rattle.std.specs.Prelude.{ℕ, List, take}
+use Rattle.std.specs.Prelude.{ℕ, List, Result, take}
 use Rattle.std.specs.Result.{result_map_both}
-use Rattle.std.specs.Prelude.{Result}
 use Rattle.hex_bytes.specs.declared.bytes.Bytes.{Bytes}
 
 -- the bytes that a value holds

@@ -65,7 +65,7 @@ impl Sheet {
     }
 
     // Writes one field of one place: a value that it may hold, or blank. `set` and `blank` each take it in, and tell its two ends apart
-    // at once, so that sharing it costs nothing.
+    // at once, so that sharing it costs little.
     #[inline(always)]
     fn put(&mut self, place: u32, field: u32, value: Option<u32>) -> Result<(), Fault>
         ensures answer { answer_of result ≡ put_answer place field value }
